@@ -18,7 +18,7 @@ def place_of(folder, shards):
     enters = entries_of(folder)["Enter"][0]
     if enters == 0:
         return "before the first run"
-    return "from the first run on" if enters <= shards else "in the second run"
+    return "from the first run on" if enters <= shards * Store.copies else "in the second run"
 
 
 def is_answered(answer, wanted):
@@ -43,7 +43,7 @@ def deleting(amid, shards, chance):
         lines.append("delete")
         for place in range(half, len(amid), 2):
             for kind, rest in (("leaf", amid[place].leaf), ("node", f"{amid[place].node} h0")):
-                lines += [f"turn {chance.randrange(shards)}" for _ in range(chance.randrange(10 * shards))]
+                lines += [f"turn {chance.randrange(shards * Store.copies)}" for _ in range(chance.randrange(10 * shards))]
                 lines.append(f"write w{place} {rest}")
                 asks.append((len(lines), kind, amid[place]))
         lines.append("settle")

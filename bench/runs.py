@@ -14,11 +14,13 @@ def wrong(text):
 
 
 class Store:
-    """A program and a folder of so many shards."""
+    """A program and a folder of so many shards, each with as many copies as the trials are of."""
+
+    copies = 1
 
     def __init__(self, program, folder, shards):
         self.folder = folder
-        self.words = [program, "script", folder, str(shards), "1"]
+        self.words = [program, "script", folder, str(shards), str(self.copies)]
 
     def start(self, **streams):
         return subprocess.Popen(self.words, stdin=subprocess.PIPE, stdout=subprocess.PIPE, text=True, **streams)

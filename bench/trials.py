@@ -166,7 +166,7 @@ def two_at_once(program, top, shards):
     second = store.start(stderr=subprocess.PIPE)
     out, errors = second.communicate("open a\nwrite a 62\nsettle\n")
     lines = "hydra: another run has the folder\nhydra: shard 0 has no good peer\n"
-    downs = "".join(f"- down {peer}\n" for peer in range(shards))
+    downs = "".join(f"- down {peer}\n" for peer in range(shards * Store.copies))
     if (out, errors, second.returncode) != (downs, lines, 4):
         wrong(f"the second of two runs: {second.returncode} {out}{errors}")
     out, _ = first.communicate("write a 62\nsettle\n")
@@ -178,24 +178,45 @@ def two_at_once(program, top, shards):
     print("of two runs at once the second is told so, and the first goes on")
 
 
+def loads(program, top, count):
+    text = "".join(f"writer {number} files 20 kept 15\n" for number in range(4)) + "roots 60\nblocks 462\n"
+    for number in range(count):
+        folder = os.path.join(top, f"loaded{number}")
+        words = [program, "load", folder, "4", "2", "--seed", "7", "--writers", "4"]
+        first = subprocess.run(words, capture_output=True, text=True, check=False)
+        if (first.stdout, first.stderr, first.returncode) != (text, "", 0):
+            wrong(f"a load: {first.returncode} {first.stdout}{first.stderr}")
+        told = subprocess.run([program, "audit", folder, "4", "2"], capture_output=True, text=True, check=False)
+        if told.returncode != 0 or told.stdout.count(" garbage 0\n") != 4 or not told.stdout.endswith("audit ok\n"):
+            wrong(f"an audit of a load: {told.returncode} {told.stdout}{told.stderr}")
+        second = subprocess.run(words, capture_output=True, text=True, check=False)
+        if (second.stdout, second.stderr, second.returncode) != ("", "hydra: the store is not empty\n", 12):
+            wrong(f"a second load: {second.returncode} {second.stdout}{second.stderr}")
+    print(f"{count} loads print the same, leave nothing to sweep, and are not loaded again")
+
+
 def main():
     here = os.path.dirname(os.path.abspath(__file__))
     words = argparse.ArgumentParser(description=__doc__)
     words.add_argument("--program", default=os.path.join(here, "..", "crates", "hydra", "out", "hydra"))
     words.add_argument("--folder", default=here, help="a folder on a real disk")
     words.add_argument("--shards", type=int, default=4)
+    words.add_argument("--copies", type=int, default=1, help="of each shard")
     words.add_argument("--kills", type=int, default=200, help="how many runs are killed on their way")
     words.add_argument("--deletions", type=int, default=200, help="how many deletion runs are killed")
+    words.add_argument("--loads", type=int, default=10, help="how many loads there are")
     words.add_argument("--blocks", type=int, default=16_000, help="of the store whose deletion runs are killed")
     words.add_argument("--seed", type=int, default=int(time.time()))
     asked = words.parse_args()
     program = os.path.abspath(asked.program)
     if not os.access(program, os.X_OK):
         sys.exit(f"{program} is not built: bin/hydra --version builds it")
+    Store.copies = asked.copies
     print(f"seed {asked.seed}")
     with tempfile.TemporaryDirectory(dir=asked.folder) as top:
         later_run(program, top, asked.shards)
         two_at_once(program, top, asked.shards)
+        loads(program, top, asked.loads)
         if asked.kills:
             kills(program, top, asked.shards, asked.kills, asked.seed)
         if asked.deletions:

@@ -6,31 +6,37 @@ use Rattle.hs_any_events.proofs.BytesLemmas.{ReadsAnyBytes}
 use Rattle.hs_any_events.proofs.CodedHistoryLemmas.{base_is_above, base_of}
 use Rattle.hs_any_events.proofs.CodedLemmas.{Code, coded_gives, coded_name}
 use Rattle.hs_any_events.proofs.CodedOpeningLemmas.{beside_itself, steady_coded}
-use Rattle.hs_any_events.proofs.CodedRightLemmas.{stays_right, swept_then}
+use Rattle.hs_any_events.proofs.CodedRightLemmas.{stays_right, sweeps_so, swept_then}
 use Rattle.hs_any_events.proofs.CodedTableLemmas.{brought_by, is_tabled, table_of, table_whole}
-use Rattle.hs_any_events.proofs.CodedWalkLemmas.{IsCodedSteady, IsTabledLine, coded_new, walks_coded}
+use Rattle.hs_any_events.proofs.CodedWalkLemmas.{IsCodedSteady, IsTabledLine, coded_new, views_coded, walks_coded}
 use Rattle.hs_any_events.proofs.OneEntryLemmas.{at_most_one}
 use Rattle.hs_any_events.proofs.RightLemmas.{ZerosBehind}
 use Rattle.hs_any_events.proofs.SinceLemmas.{Since, since_same, walks_since}
 use Rattle.hs_any_events.proofs.SteadyLemmas.{IsSteady}
-use Rattle.hs_any_events.specs.Events.{MayStepAll, MayStep, StaysCountedRight}
+use Rattle.hs_anatomy.specs.Acts.{Acts, begun as begun_by}
+use Rattle.hs_any_events.specs.Events.{AreCountedRight, ComesNext, LineBringsAddress, MayStepAll, MayStep, StaysCountedRight, Sweeps, SweepsRight, any_lines}
 use Rattle.hs_awaiting.specs.declared.waiting.Waiting.{Waiting}
-use Rattle.hs_core_words.specs.Calls.{last_line_after}
+use Rattle.hs_core_words.specs.Calls.{IsNextLine, last_line_after}
 use Rattle.hs_core_words.specs.declared.event.Event.{Event}
 use Rattle.hs_core_words.specs.declared.event.Event.TheVariants as event
-use Rattle.hs_core_words.specs.Looking.{operation_of}
+use Rattle.hs_core_words.specs.Looking.{group_of, operation_of, shape_of}
+use Rattle.hs_core_words.specs.Opening.{new_core}
 use Rattle.hs_core_words.specs.State.{Core}
 use Rattle.hs_core_words.specs.Step.{do_event, keep_entries, refuse_entries, step}
 use Rattle.hs_desk.specs.declared.done.Done.{Done}
 use Rattle.hs_desk.specs.declared.done.Done.TheVariants as done
 use Rattle.hs_desk.specs.declared.fault.CoreFault.{CoreFault}
 use Rattle.hs_effects.proofs.SweepLemmas.{ByViews}
+use Rattle.hs_effects.specs.Taking.{taken}
+use Rattle.hs_entry.specs.declared.entry.Entry.{Entry}
 use Rattle.hs_events.specs.Course.{steps}
 use Rattle.hs_events.specs.Due.{Events}
 use Rattle.hs_events.specs.Found.{Found, first_core, opens_with}
 use Rattle.hs_events.specs.Sane.{IsSane}
 use Rattle.hs_events.specs.Whole.{Whole, open_whole, step_whole}
 use Rattle.hs_fold.specs.Runs.Facts.{Catalogue as Folded}
+use Rattle.hs_fold.specs.Shards.Setting.{Setting}
+use Rattle.hs_laws.specs.Valid.{IsValid}
 use Rattle.hs_limits.specs.declared.address.Address.{Address}
 use Rattle.hs_limits.specs.declared.limits.Limits.{Limits}
 use Rattle.hs_model.proofs.Members.{Member, member-append_left, member-append_right}
@@ -38,13 +44,18 @@ use Rattle.hs_model.specs.declared.command.Command.{Command}
 use Rattle.hs_moments.proofs.AloneEventLemmas.{begun, step_is}
 use Rattle.hs_moments.proofs.CoreLemmas.{line_at}
 use Rattle.hs_moments.proofs.SaneLemmas.{sane_stays}
+use Rattle.hs_replica.specs.Group.{committed}
 use Rattle.hs_settled.proofs.DeletesCountLemmas.{CountLaws}
 use Rattle.hs_settled.proofs.DeletesEndLemmas.{does_keep}
 use Rattle.hs_settled.proofs.DeletesRunLemmas.{steps_ended}
-use Rattle.hs_standing.proofs.AlongWalkLemmas.{walks_step}
+use Rattle.hs_standing.proofs.AlongWalkLemmas.{acts_keep_it, along, come_front, copies_step, knows_begun, seated_begun, walks_step}
+use Rattle.hs_standing.proofs.FewLemmas.{takes_few}
+use Rattle.hs_standing.proofs.LegalOpenLemmas.{folds_valid, opened}
 use Rattle.hs_standing.proofs.Laws.{Entries, Steps}
 use Rattle.hs_standing.proofs.ValidLemmas.{told_valid}
+use Rattle.hs_standing.specs.Copies.{AllComeOn, ComesOn}
 use Rattle.hs_standing.specs.Held.{GivesAddresses}
+use Rattle.hs_standing.specs.Opens.{MayOpen}
 use Rattle.hs_standing.specs.Run.{IsRunning, RunStands}
 use Rattle.hs_standing.specs.Standing.{judging_of}
 use Rattle.hs_standing.specs.Start.{Start}
@@ -73,25 +84,13 @@ pub record StaysSteady (code : Code) (limits : Limits) (c : Whole) : Type 0 wher
 
 -- ---- as a core opens
 
-module _ (start : Start) (found : Found) (r : IsRunning start (open_whole start.set found)) where
-  abbrev first : Core
-  first = first_core start.set found
-
-  turn : IsInTurn (λ n. None) (first_core start.set found)
-  turn = opened_turn (λ n. None) start.set.shape start.set.limits (opens_with start.set found) found.opened refl
-
-  abbrev its : RunStands start (first_core start.set found) r.stands.whole.cs
-  its = r.stands.holds
-
-  -- no line was begun
-  idle : (line : ℕ) (w : Waiting) → operation_of line first ≡ Some w → ⊥
-  idle line w at = cc (turn.turns.asked line w.operation.op (ap (λ (y : Option Waiting). option_map (λ (u : Waiting). u.operation.op) y) at)).named
-
+-- of a core that stands and has no operation: payloads start above those of its history, and tell the addresses that these events bring
+module _ (start : Start) (core : Core) (cs : List Folded) (its : RunStands start core cs) (valid : IsValid start.entry) (idle : (line : ℕ) (w : Waiting) → operation_of line core ≡ Some w → ⊥) where
   abbrev nobody : ℕ → Option Command
   nobody n = None
 
-  abbrev opens_steady : IsSteady start.set.name start.set.limits (first_core start.set found).progress.last_line (first_core start.set found) r.stands.whole.cs
-  opens_steady = record {
+  abbrev stands_steady : IsSteady start.set.name start.set.limits core.progress.last_line core cs
+  stands_steady = record {
     commands = nobody;
     none_above = λ line up. refl;
     limited = its.limits;
@@ -103,10 +102,37 @@ module _ (start : Start) (found : Found) (r : IsRunning start (open_whole start.
     addressed = its.addressed;
     commanded = λ line w at. absurd (idle line w at);
     epochs = its.epochs;
-    valid = told_valid (judging_of start) start.entry (told_so_far first) (store_with r.stands.whole.cs first.sessions) r.valid its.tells;
+    valid = told_valid (judging_of start) start.entry (told_so_far core) (store_with cs core.sessions) valid its.tells;
   }
 
-  -- payloads start above those of the history with which it opens, and tell the addresses that these events bring
+  abbrev pub code_for : Events → Code
+  code_for events = record { name = start.set.name; base = base_of its.lawful.lawful.history; table = table_of events }
+
+  stands_coded : (events : Events) → Steady (code_for events) start.set.limits core
+  stands_coded events = record {
+    coded = core;
+    beside = beside_itself (code_for events) core idle;
+    steady = (
+      cs,
+      steady_coded (code_for events) core idle start.set.limits core.progress.last_line cs stands_steady
+          (base_is_above its.lawful.lawful.history (base_of its.lawful.lawful.history) (omega arith)),
+    );
+  }
+
+-- no line was begun as it opens
+none_begun : (core : Core) → IsInTurn (λ n. None) core → (line : ℕ) (w : Waiting) → operation_of line core ≡ Some w → ⊥
+none_begun core turn line w at = cc (turn.turns.asked line w.operation.op (ap (λ (y : Option Waiting). option_map (λ (u : Waiting). u.operation.op) y) at)).named
+
+module _ (start : Start) (found : Found) (r : IsRunning start (open_whole start.set found)) where
+  abbrev first : Core
+  first = first_core start.set found
+
+  turn : IsInTurn (λ n. None) (first_core start.set found)
+  turn = opened_turn (λ n. None) start.set.shape start.set.limits (opens_with start.set found) found.opened refl
+
+  idle : (line : ℕ) (w : Waiting) → operation_of line first ≡ Some w → ⊥
+  idle = none_begun first turn
+
   abbrev pub opening_code : Events → Code
   opening_code events = record { name = start.set.name; base = base_of r.stands.holds.lawful.lawful.history; table = table_of events }
 
@@ -115,15 +141,7 @@ module _ (start : Start) (found : Found) (r : IsRunning start (open_whole start.
     sane = r.stands.whole.sane;
     few = r.stands.whole.few;
     clean = turn.going r.stands.whole.sane.going;
-    steady = record {
-      coded = first;
-      beside = beside_itself (opening_code events) first idle;
-      steady = (
-        r.stands.whole.cs,
-        steady_coded (opening_code events) first idle start.set.limits first.progress.last_line r.stands.whole.cs opens_steady
-            (base_is_above r.stands.holds.lawful.lawful.history (base_of r.stands.holds.lawful.lawful.history) (omega arith)),
-      );
-    };
+    steady = stands_coded start first r.stands.whole.cs r.stands.holds r.valid idle events;
   }
 
   pub opening_gives : GivesAddresses start.set.name → (events : Events) → GivesAddresses (coded_name (opening_code events))
@@ -148,16 +166,23 @@ more_lines name limits last next core cs up its = record {
   valid = its.valid;
 }
 
-line_rises : (e : Event) (at : ℕ) (core : Core) → MayStep core e at → core.progress.last_line ≤ last_line_after e core
-line_rises (event.Line line o) at core may = let up : core.progress.last_line < line = may.next in omega (arith, up)
-line_rises (event.Report peer d) at core may = omega arith
-line_rises (event.Turn line peer) at core may = omega arith
-line_rises (event.Deliver line number) at core may = omega arith
-line_rises (event.Lose line number) at core may = omega arith
-line_rises (event.Repeat line number) at core may = omega arith
-line_rises (event.Nudge line peer) at core may = omega arith
-line_rises (event.Fail line peer) at core may = omega arith
-line_rises (event.Start line peer) at core may = omega arith
+line_rises : (e : Event) (core : Core) → IsNextLine core e → core.progress.last_line ≤ last_line_after e core
+line_rises (event.Line line o) core next = let up : core.progress.last_line < line = next in omega (arith, up)
+line_rises (event.Report peer d) core next = omega arith
+line_rises (event.Turn line peer) core next = omega arith
+line_rises (event.Deliver line number) core next = omega arith
+line_rises (event.Lose line number) core next = omega arith
+line_rises (event.Repeat line number) core next = omega arith
+line_rises (event.Nudge line peer) core next = omega arith
+line_rises (event.Fail line peer) core next = omega arith
+line_rises (event.Start line peer) core next = omega arith
+
+line_more : (code : Code) (limits : Limits) (c : Core) → Steady code limits c → (e : Event) → IsNextLine c e → IsCodedSteady code limits (last_line_after e c) c
+line_more code limits c s e next = record {
+  coded = s.coded;
+  beside = s.beside;
+  steady = (s.steady.0, more_lines (coded_name code) limits c.progress.last_line (last_line_after e c) s.coded s.steady.0 (line_rises e c next) s.steady.1);
+}
 
 -- what each report may tell
 any_report : (peer : ℕ) (d : Done) (core : Core) → MayReport (λ number bytes w c. Unit {0}) peer d core
@@ -171,7 +196,7 @@ any_report peer (done.Stepped switched) core = tt
 any_report peer (done.Failed disk) core = tt
 
 -- an event brings addresses of a table
-abbrev IsWithin : Code → List Address → Type 0
+abbrev pub IsWithin : Code → List Address → Type 0
 IsWithin code addresses = (a : Address) → Member a addresses → Member a code.table
 
 module _ (code : Code) (limits : Limits) (core : Core) (its : Steady code limits core) where
@@ -186,18 +211,18 @@ module _ (code : Code) (limits : Limits) (core : Core) (its : Steady code limits
           let none : None ≡ Some says.said = sym (its.steady.1.none_above line up) ∙ says.asks in
           absurd (cc none)
 
-  may_event : (e : Event) (at : ℕ) → MayStep core e at → IsWithin code (brought_by e) → MayEvent (λ line o c. IsTabledLine code (last_line_after e core) line o c) (λ number bytes w c. Unit {0}) (λ line. Unit {0}) e core
-  may_event (event.Line line o) at may within =
-      let up : core.progress.last_line < line = may.next in
-      record { new = new_line line up; counted = omega (arith, up); until = omega arith; tabled = is_tabled code core.sessions o within may.given }
-  may_event (event.Report peer d) at may within = any_report peer d core
-  may_event (event.Turn line peer) at may within = tt
-  may_event (event.Deliver line number) at may within = tt
-  may_event (event.Lose line number) at may within = tt
-  may_event (event.Repeat line number) at may within = tt
-  may_event (event.Nudge line peer) at may within = tt
-  may_event (event.Fail line peer) at may within = tt
-  may_event (event.Start line peer) at may within = tt
+  may_event : (e : Event) → IsNextLine core e → LineBringsAddress e core → IsWithin code (brought_by e) → MayEvent (λ line o c. IsTabledLine code (last_line_after e core) line o c) (λ number bytes w c. Unit {0}) (λ line. Unit {0}) e core
+  may_event (event.Line line o) next given within =
+      let up : core.progress.last_line < line = next in
+      record { new = new_line line up; counted = omega (arith, up); until = omega arith; tabled = is_tabled code core.sessions o within given }
+  may_event (event.Report peer d) next given within = any_report peer d core
+  may_event (event.Turn line peer) next given within = tt
+  may_event (event.Deliver line number) next given within = tt
+  may_event (event.Lose line number) next given within = tt
+  may_event (event.Repeat line number) next given within = tt
+  may_event (event.Nudge line peer) next given within = tt
+  may_event (event.Fail line peer) next given within = tt
+  may_event (event.Start line peer) next given within = tt
 
 -- a core that goes on has refused nothing
 still_clean : (e : Event) (at : ℕ) (core : Core) → core.ended ≡ None → (step e at core).ended ≡ None → core.refused ≡ [] → (step e at core).refused ≡ []
@@ -211,20 +236,39 @@ still_clean e at core going then clean =
     by_room true over = absurd (cc over)
     by_room false over = (does_keep e (begun e at core)).refused ∙ clean
 
+-- the addresses of each are of the table
+abbrev pub ComesWithin : Code → Event → Core → Type 0
+ComesWithin code event core = ComesNext event core × IsWithin code (brought_by event)
+
+pub all_within : (code : Code) (es : Events) (c : Core) → AllComeOn ComesNext c es → IsWithin code (table_of es) → AllComeOn (ComesWithin code) c es
+all_within code [] c come within = tt
+all_within code (e ∷ es) c come within = (
+  λ going. let it = come.0 going in record { seated = it.seated; known = it.known; room = it.room; may = (it.may, λ a h. within a (member-append_left a (brought_by e.0) (table_of es) h)) },
+  all_within code es (step e.0 e.1 c) come.1 (λ a h. within a (member-append_right a (brought_by e.0) (table_of es) h)),
+)
+
 module _ (below : LawsBelow) (code : Code) (names : GivesAddresses (coded_name code)) (limits : Limits) where
+  -- ---- with any number of copies
+
+  next_of : (e : Event) (at : ℕ) (c : Core) → c.ended ≡ None → c.refused ≡ [] → c.entries ≡ [] → ComesOn (ComesWithin code) e c → Steady code limits c → Steady code limits (step e at c)
+  next_of e at c going clean told come s =
+      let last : ℕ = last_line_after e c in
+      subst (λ (n : ℕ). IsCodedSteady code limits n (step e at c)) (sym (line_at c e at going))
+      (copies_step (walks_coded below.views below.steps below.reads below.laws code names limits last) c (views_coded below.views below.steps below.reads below.laws code names limits last (shape_of c)) e at going come.seated come.known come.room clean
+      (may_event code limits c s e come.may.0.next come.may.0.given come.may.1)
+      (line_more code limits c s e come.may.0.next))
+
+  pub all_steady : (es : Events) (c : Core) → c.refused ≡ [] → c.entries ≡ [] → AllComeOn (ComesWithin code) c es → Steady code limits c → Steady code limits (steps c es)
+  all_steady es c clean told come s = along (ComesWithin code) (λ (x : Core). Steady code limits x) next_of es c clean told come s
+
+  -- ---- with one copy a shard
+
   -- behind the event it is steady up to its line, and of a shard it is known what came since
   next_since : (c : Whole) (e : Event) (at : ℕ) → StaysSteady code limits c → MayStep c.core e at → IsWithin code (brought_by e) → (shard : ℕ)
       → IsCodedSteady code limits (last_line_after e c.core) (step e at c.core) × Since shard c.core (step e at c.core)
   next_since c e at s may within shard =
-      walks_step (walks_since (walks_coded below.views below.steps below.reads below.laws code names limits (last_line_after e c.core)) shard c.core) c e at s.sane s.few s.clean (may_event code limits c.core s.steady e at may within) (
-        record {
-          coded = s.steady.coded;
-          beside = s.steady.beside;
-          steady = (
-            s.steady.steady.0,
-            more_lines (coded_name code) limits c.core.progress.last_line (last_line_after e c.core) s.steady.coded s.steady.steady.0 (line_rises e at c.core may) s.steady.steady.1,
-          );
-        },
+      walks_step (walks_since (walks_coded below.views below.steps below.reads below.laws code names limits (last_line_after e c.core)) shard c.core) c e at s.sane s.few s.clean (may_event code limits c.core s.steady e may.next may.given within) (
+        line_more code limits c.core s.steady e may.next,
         since_same shard c.core,
       )
 
@@ -249,7 +293,7 @@ module _ (below : LawsBelow) (code : Code) (names : GivesAddresses (coded_name c
         swept_then code limits c.core.progress.last_line c.core s.steady laws zeros s.few (step e at c.core) shard (at_most_one c e at s.sane shard low) sweeps (next_since c e at s may within shard).1)
 
     -- or where none comes
-    right_last : (core : Core) → Steady code limits core → StaysCountedRight core core
+    pub right_last : (core : Core) → Steady code limits core → StaysCountedRight core core
     right_last core s = stays_right code limits core.progress.last_line core s laws zeros names core (λ shard low sweeps. absurd (sweeps refl))
 
     along_right : (es : Events) (c : Whole) → StaysSteady code limits c → MayStepAll c.core es → IsWithin code (table_of es) → (n : ℕ) → StaysCountedRight (steps c.core (take n es)) (steps c.core (take (suc n) es))
@@ -280,3 +324,68 @@ module _ (below : LawsBelow) (code : Code) (names : GivesAddresses (coded_name c
     front_right es c s may within n =
         let next : suc n ≡ n + 1 = omega arith in
         subst (λ k. StaysCountedRight (steps c.core (take n es)) (steps c.core (take k es))) next (along_right es c s may within n)
+
+-- ---- with any number of copies, from opening on
+
+module _ (below : LawsBelow) (set : Setting) (found : Found) (cs : List Folded) (names : GivesAddresses set.name) (may : MayOpen (any_lines set) set.shape (opens_with set found) found.opened cs) where
+  abbrev start_of : Start
+  start_of = record { set = set; commands = λ line. None; entry = store_with cs [] }
+
+  abbrev opens : Core
+  opens = first_core set found
+
+  turn_of : IsInTurn (λ line. None) (first_core set found)
+  turn_of = opened_turn (λ line. None) set.shape set.limits (opens_with set found) found.opened refl
+
+  its_of : (after : List Folded) × RunStands start_of (first_core set found) after
+  its_of = opened below.views below.steps below.laws (any_lines set) names set.shape (opens_with set found) found.opened cs may
+
+  valid_of : IsValid (store_with cs [])
+  valid_of = folds_valid set.name (new_core set.shape set.limits (opens_with set found) found.opened) cs may.lawful
+
+  -- payloads tell the addresses that these events bring
+  abbrev code_of : Events → Code
+  code_of es = code_for start_of opens its_of.0 its_of.1 valid_of (none_begun opens turn_of) es
+
+  given_of : (es : Events) → GivesAddresses (coded_name (code_of es))
+  given_of es = coded_gives (code_of es) names (table_whole es)
+
+  -- behind events whose addresses are among them it is steady
+  behind_of : (table es : Events) → AllComeOn ComesNext opens es → IsWithin (code_of table) (table_of es) → Steady (code_of table) set.limits (steps opens es)
+  behind_of table es come within = go opens.ended refl
+    where
+      first_of : Steady (code_of table) set.limits opens
+      first_of = stands_coded start_of opens its_of.0 its_of.1 valid_of (none_begun opens turn_of) table
+
+      go : (o : Option CoreFault) → opens.ended ≡ o → Steady (code_of table) set.limits (steps opens es)
+      go (Some fault) over = subst (λ (x : Core). Steady (code_of table) set.limits x) (sym (steps_ended opens es fault over)) first_of
+      go None going = all_steady below (code_of table) (given_of table) set.limits es opens (turn_of.going going) turn_of.told (all_within (code_of table) es opens come within) first_of
+
+  module _ (laws : CountLaws) (zeros : ZerosBehind) where
+    pub copies_right : (es : Events) → AllComeOn ComesNext opens es → (n : ℕ) → AreCountedRight (steps opens (take n es))
+    copies_right es come n =
+        let so : StaysCountedRight (steps opens (take n es)) (steps opens (take n es)) =
+        right_last below (code_of (take n es)) (given_of (take n es)) set.limits laws zeros (steps opens (take n es)) (behind_of (take n es) (take n es) (come_front ComesNext n es opens come) (λ a m. m)) in
+        record { naming = so.naming; names = so.names; counts = so.counts; zeros = so.zeros }
+
+    -- an entry takes effect by the event that comes next, where the addresses of all these are among those of a table
+    sweeps_by : (table es : Events) (e : Event) (at : ℕ) → IsWithin (code_of table) (table_of es) → IsWithin (code_of table) (brought_by e) → AllComeOn ComesNext opens es → ComesOn ComesNext e (steps opens es)
+        → (reached : Core) → Acts (begun_by e at (steps opens es)) (Some e) reached → (shard number : ℕ) (entry : Entry) → committed (group_of shard reached) ≡ Some (number, entry) → Sweeps shard reached (taken shard entry reached)
+        → SweepsRight shard entry reached
+    sweeps_by table es e at within brings come comes reached xs shard number entry next sweeps =
+        sweeps_so (code_of table) set.limits (last_line_after e (steps opens es)) reached there laws zeros (given_of table) shard number entry next
+        (takes_few (begun_by e at (steps opens es)) e (seated_begun e at (steps opens es) comes.seated) (knows_begun e at (steps opens es) comes.known) comes.room reached xs shard number entry next) sweeps
+      where
+        steady : Steady (code_of table) set.limits (steps opens es)
+        steady = behind_of table es come within
+
+        there : IsCodedSteady (code_of table) set.limits (last_line_after e (steps opens es)) reached
+        there =
+            acts_keep_it (walks_coded below.views below.steps below.reads below.laws (code_of table) (given_of table) set.limits (last_line_after e (steps opens es))) (steps opens es)
+            (views_coded below.views below.steps below.reads below.laws (code_of table) (given_of table) set.limits (last_line_after e (steps opens es)) (shape_of (steps opens es))) e at comes.seated comes.known comes.room
+            (may_event (code_of table) set.limits (steps opens es) steady e comes.may.next comes.may.given brings) (line_more (code_of table) set.limits (steps opens es) steady e comes.may.next) reached xs
+
+    pub sweeps_right : (es : Events) (e : Event) (at : ℕ) → AllComeOn ComesNext opens es → ComesOn ComesNext e (steps opens es) → (reached : Core) → Acts (begun_by e at (steps opens es)) (Some e) reached
+        → (shard number : ℕ) (entry : Entry) → committed (group_of shard reached) ≡ Some (number, entry) → Sweeps shard reached (taken shard entry reached) → SweepsRight shard entry reached
+    sweeps_right es e at come comes =
+        sweeps_by ((e, at) ∷ es) es e at (λ a m. member-append_right a (brought_by e) (table_of es) m) (λ a m. member-append_left a (brought_by e) (table_of es) m) come comes

@@ -1,5 +1,5 @@
 -- The counts of a core that is beside a steady one are right, and so are its zero blocks by the naming of that.
-use Rattle.std.proofs.Common.{◌≡◌, ◌≢◌, ◌∙◌, sym, ap, subst, ◌⊎◌, inl, inr, ℕ, ◌+◌, ◌<◌, false, length, List, Option, Some, None, refl, slice_get, arith}
+use Rattle.std.proofs.Common.{◌≡◌, ◌≢◌, ◌∙◌, sym, ap, subst, ◌⊎◌, inl, inr, ℕ, ◌+◌, ◌<◌, ◌≤◌, false, length, List, Option, Some, None, refl, slice_get, slice_index_or, slice_set, arith}
 use Rattle.std.proofs.lemmas.Option.{slice_get-map}
 use Rattle.std.specs.Option.{option_map}
 use Rattle.hs_any_events.proofs.CodedCoreLemmas.{same_front, same_limits, waiting_alike}
@@ -13,28 +13,31 @@ use Rattle.hs_any_events.proofs.FewLemmas.{few_behind}
 use Rattle.hs_any_events.proofs.OneEntryLemmas.{AtMostOne}
 use Rattle.hs_any_events.proofs.SinceLemmas.{HasSweptBy, Since, TookOne, WaitedFirst}
 use Rattle.hs_any_events.proofs.SweptLemmas.{IsRound, round_called, round_named, round_no_block, round_or_same, round_sweeps, sweeps_up_to}
-use Rattle.hs_any_events.specs.Events.{StaysCountedRight, Sweeps}
+use Rattle.hs_any_events.specs.Events.{StaysCountedRight, Sweeps, SweepsRight}
 use Rattle.hs_core_words.specs.Looking.{catalogue_of, front_of, group_of, shape_of}
 use Rattle.hs_core_words.specs.Pending.{named}
 use Rattle.hs_core_words.specs.Records.{HasRecordRoom}
 use Rattle.hs_core_words.specs.State.{Core}
 use Rattle.hs_effects.specs.Lawful.{IsLawful, MayFollow}
-use Rattle.hs_effects.specs.Taking.{done_by, next_deed, setting_of}
+use Rattle.hs_effects.proofs.GroupLemmas.{committed_first, set_at}
+use Rattle.hs_effects.specs.Taking.{done_by, next_deed, setting_of, taken}
 use Rattle.hs_entry.specs.declared.entry.Entry.{Entry}
 use Rattle.hs_fold.specs.Lawful.{Deed}
 use Rattle.hs_fold.specs.Runs.Facts.{Catalogue as Folded}
+use Rattle.hs_fold.specs.Shards.Sound.{most_records}
 use Rattle.hs_fold.specs.Shards.Setting.{Setting}
 use Rattle.hs_limits.specs.declared.address.Address.{Address}
 use Rattle.hs_limits.specs.declared.limits.Limits.{Limits}
 use Rattle.hs_measure.specs.Zeros.{AreZerosRight, EachUnreachedIsZero}
 use Rattle.hs_post.specs.declared.message.Message.{Message}
 use Rattle.hs_post.specs.declared.message.Message.TheVariants as message
+use Rattle.hs_replica.specs.Group.{committed}
 use Rattle.hs_replica.specs.Kinds.{is_block}
 use Rattle.hs_rounds.specs.declared.body.RoundBody.{RoundBody}
 use Rattle.hs_rounds.specs.declared.place.Place.{Place}
 use Rattle.hs_shard.specs.Apply.{apply}
 use Rattle.hs_shard.specs.Clients.{Applied}
-use Rattle.hs_shard.specs.Facts.{Catalogue}
+use Rattle.hs_shard.specs.Facts.{Catalogue, empty_catalogue}
 use Rattle.hs_settled.proofs.DeletesCountLemmas.{CountLaws}
 use Rattle.hs_standing.proofs.AtomLemmas.{set_on}
 use Rattle.hs_standing.proofs.FollowLemmas.{may_follow}
@@ -42,6 +45,10 @@ use Rattle.hs_standing.proofs.HistoryLemmas.{Likewise, lawful_on}
 use Rattle.hs_standing.specs.Held.{GivesAddresses}
 use Rattle.hs_standing.specs.Rests.{IsResting}
 use Rattle.hs_standing.specs.Sent.{AreSent, HasGot, IsOfSent, got_of}
+
+-- an entry leaves no shard with more root records than it takes
+abbrev pub TakesFew : ℕ → Entry → Core → Type 0
+TakesFew shard entry core = (g : ℕ) → length (catalogue_of g (taken shard entry core)).roots ≤ most_records
 
 module _ (code : Code) (limits : Limits) (last : ℕ) (core : Core) (s : IsCodedSteady code limits last core) where
   abbrev name : List ℕ → Address
@@ -111,13 +118,13 @@ module _ (code : Code) (limits : Limits) (last : ℕ) (core : Core) (s : IsCoded
   -- ---- what it takes next
 
   -- an Enter or a Got that waits first may come
-  follows_here : (shard : ℕ) (entry : Entry) → IsRound entry → HasRecordRoom core → slice_get (group_of shard core).waiting 0 ≡ Some entry
+  follows_here : (shard : ℕ) (entry : Entry) → IsRound entry → TakesFew shard entry core → slice_get (group_of shard core).waiting 0 ≡ Some entry
       → MayFollow (setting_of (coded_name code) core) s.steady.0 (next_deed shard entry core)
-  follows_here shard entry is room at =
+  follows_here shard entry is few at =
       subst (λ (set : Setting). MayFollow set cs (next_deed shard entry core)) set_there
       (subst (λ (n : ℕ). MayFollow (setting_of name s.coded) cs (record { shard = shard; number = n + 1; entry = entry })) (same_front code core s.coded s.beside shard)
       (may_follow name cs s.coded s.steady.1.lawful shard entry low (round_called name s.coded entry is)
-      (few_there code limits last core s shard entry entry refl (few_behind core room shard entry is)) rests.waits))
+      (few_there code limits last core s shard entry entry refl few) rests.waits))
     where
       rests : IsResting s.steady.0 shard (front_of shard s.coded) entry
       rests = s.steady.1.resting shard 0 entry (waits_there shard 0 entry (round_no_block entry is) at)
@@ -130,16 +137,42 @@ module _ (code : Code) (limits : Limits) (last : ℕ) (core : Core) (s : IsCoded
     right = zeros_now laws zeros name core cs lawful_here sent_here
 
     -- where it takes effect, and the shard has swept otherwise then, it sweeps up to its epoch, and finds each zero block
-    swept_here : HasRecordRoom core → (shard : ℕ) (entry : Entry) → IsRound entry → slice_get (group_of shard core).waiting 0 ≡ Some entry
+    swept_here : (shard : ℕ) (entry : Entry) → IsRound entry → TakesFew shard entry core → slice_get (group_of shard core).waiting 0 ≡ Some entry
         → (done_by shard entry core).catalogue.swept ≢ (catalogue_of shard core).swept
         → ((done_by shard entry core).catalogue.swept ≡ (catalogue_of shard core).epoch) × EachUnreachedIsZero s.steady.0 shard
-    swept_here room shard entry is at differs = elim (round_sweeps name cs core shard lawful_here entry is may) [
+    swept_here shard entry is few at differs = elim (round_sweeps name cs core shard lawful_here entry is may) [
       | inl same ↦ absurd (differs same)
       | inr sweeping ↦ (sweeps_up_to name cs core shard lawful_here entry is may sweeping, right.exact_zero (next_deed shard entry core) may sweeping)
     ]
       where
         may : MayFollow (setting_of (coded_name code) core) s.steady.0 (next_deed shard entry core)
-        may = follows_here shard entry is room at
+        may = follows_here shard entry is few at
+
+    -- so it is of whatever entry takes effect
+    swept_by : (shard number : ℕ) (entry : Entry) → committed (group_of shard core) ≡ Some (number, entry) → TakesFew shard entry core → Sweeps shard core (taken shard entry core)
+        → ((catalogue_of shard (taken shard entry core)).swept ≡ (catalogue_of shard core).epoch) × EachUnreachedIsZero s.steady.0 shard
+    swept_by shard number entry next few sweeps = by (set_at (empty_catalogue (shape_of core) shard) core.catalogues shard (done_by shard entry core).catalogue)
+      where
+        done : Catalogue
+        done = (done_by shard entry core).catalogue
+
+        none : Catalogue
+        none = empty_catalogue (shape_of core) shard
+
+        by : (slice_index_or (slice_set core.catalogues shard done) shard none ≡ done) ⊎ (slice_index_or (slice_set core.catalogues shard done) shard none ≡ slice_index_or core.catalogues shard none)
+            → ((catalogue_of shard (taken shard entry core)).swept ≡ (catalogue_of shard core).epoch) × EachUnreachedIsZero s.steady.0 shard
+        by (inr old) = absurd (sweeps (ap (λ (k : Catalogue). k.swept) old))
+        by (inl now) = elim (round_or_same (front_of shard core + 1) entry (named entry core) (catalogue_of shard core)) [
+          | inr same ↦ absurd (sweeps (ap (λ (k : Catalogue). k.swept) now ∙ same))
+          | inl is ↦
+              let its = swept_here shard entry is few (committed_first (group_of shard core) number entry next).first (λ same. sweeps (ap (λ (k : Catalogue). k.swept) now ∙ same)) in
+              (ap (λ (k : Catalogue). k.swept) now ∙ its.0, its.1)
+        ]
+
+    pub sweeps_so : GivesAddresses (coded_name code) → (shard number : ℕ) (entry : Entry) → committed (group_of shard core) ≡ Some (number, entry) → TakesFew shard entry core → Sweeps shard core (taken shard entry core) → SweepsRight shard entry core
+    sweeps_so names shard number entry next few sweeps =
+        let its = swept_by shard number entry next few sweeps in
+        record { naming = name; names = names; zeros = record { folds = cs; lawful = lawful_here; now = right }; upto = its.0; exact = its.1 }
 
     -- so it is by an event by which at most one entry of the shard took effect
     module _ (room : HasRecordRoom core) (after : Core) (shard : ℕ) (most : AtMostOne shard core after) (sweeps : Sweeps shard core after) where
@@ -159,7 +192,7 @@ module _ (code : Code) (limits : Limits) (last : ℕ) (core : Core) (s : IsCoded
           left = swept.1 ∙ ap (λ (a : Applied). a.catalogue.swept) (round_named (front_of shard core + 1) t.entry swept.0 (named t.entry core) (catalogue_of shard core) is)
 
           its : ((done_by shard t.entry core).catalogue.swept ≡ (catalogue_of shard core).epoch) × EachUnreachedIsZero s.steady.0 shard
-          its = swept_here room shard t.entry is (waited t most t.first) (λ same. sweeps (left ∙ same))
+          its = swept_here shard t.entry is (few_behind core room shard t.entry is) (waited t most t.first) (λ same. sweeps (left ∙ same))
 
       pub swept_then : Since shard core after → ((catalogue_of shard after).swept ≡ (catalogue_of shard core).epoch) × EachUnreachedIsZero s.steady.0 shard
       swept_then (inl u) = absurd (sweeps (ap (λ (k : Catalogue). k.swept) u.catalogue))

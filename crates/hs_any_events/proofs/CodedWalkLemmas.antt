@@ -14,7 +14,8 @@ use Rattle.hs_any_events.proofs.CodedLemmas.{Code, coded_name, coded_named, code
 use Rattle.hs_any_events.proofs.CodedOpLemmas.{coded_bytes}
 use Rattle.hs_any_events.proofs.CodedPoolLemmas.{round_at}
 use Rattle.hs_any_events.proofs.CodedStepLemmas.{told_coded}
-use Rattle.hs_any_events.proofs.SteadyLemmas.{IsFreshLine, IsSteady, walks_steady}
+use Rattle.hs_any_events.proofs.CodedViewLemmas.{begin_coded}
+use Rattle.hs_any_events.proofs.SteadyLemmas.{IsFreshLine, IsSteady, views_steady, walks_steady}
 use Rattle.hs_awaiting.specs.declared.wait.Wait.TheVariants as wait
 use Rattle.hs_awaiting.specs.declared.waiting.Waiting.{Waiting}
 use Rattle.hs_core_words.specs.Asking.{send_round}
@@ -24,6 +25,7 @@ use Rattle.hs_core_words.specs.Looking.{catalogue_of, group_of, operation_of, sh
 use Rattle.hs_core_words.specs.Operating.{begin_line, go_on_with, propose_entry, resume}
 use Rattle.hs_core_words.specs.Seeing.{pointers_for}
 use Rattle.hs_core_words.specs.State.{Core}
+use Rattle.hs_core_words.specs.Views.{begin_view}
 use Rattle.hs_effects.proofs.FreeLemmas.{are_addressed, is_bounded}
 use Rattle.hs_effects.proofs.LookLemmas.{found_map}
 use Rattle.hs_effects.proofs.SweepLemmas.{ByViews}
@@ -49,11 +51,12 @@ use Rattle.hs_post.specs.declared.message.Message.TheVariants as message
 use Rattle.hs_post.specs.Pool.{message_at, without}
 use Rattle.hs_replica.specs.Group.{committed}
 use Rattle.hs_shard.specs.Facts.{Catalogue}
+use Rattle.hs_limits.specs.declared.shape.Shape.{Shape}
 use Rattle.hs_standing.proofs.HandleLemmas.{hold_addresses}
 use Rattle.hs_standing.proofs.Laws.{Entries, Steps}
 use Rattle.hs_standing.specs.Changes.{IsIdle, told_at_once}
 use Rattle.hs_standing.specs.Held.{GivesAddresses}
-use Rattle.hs_standing.specs.Walks.{Walks}
+use Rattle.hs_standing.specs.Walks.{Walks, WalksViews}
 use Rattle.hs_tokens.specs.Seats.{Seats}
 
 -- ---- what is asked of a line
@@ -174,6 +177,13 @@ module _ (views : ByViews) (steps : Steps) (reads : ReadsAnyBytes) (laws : Entri
     steady = walks.round number from to epoch round total deltas s.coded (low_there code limits last c s to low)
         (round_at c.pool s.coded.pool s.beside.pool number (message.Round from to epoch round total deltas) refl at)
         (new_alike code c s.coded s.beside number to from epoch round ∙ new) s.steady;
+  }
+
+  pub views_coded : (shape : Shape) → WalksViews shape (λ c. IsCodedSteady code limits last c)
+  views_coded shape = λ shard c same low more s. record {
+    coded = begin_view shard s.coded;
+    beside = begin_coded code c s.coded shard s.beside;
+    steady = views_steady views steps reads laws (coded_name code) names limits last shard s.coded (low_there code limits last c s shard low) s.steady;
   }
 
   pub walks_coded : Walks (λ line o c. IsTabledLine code last line o c) (λ number bytes w c. Unit {0}) (λ line. Unit {0}) (λ c. IsCodedSteady code limits last c)

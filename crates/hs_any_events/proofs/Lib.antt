@@ -14,6 +14,7 @@ pub mod CodedPoolLemmas
 pub mod CodedRightLemmas
 pub mod CodedStepLemmas
 pub mod CodedTableLemmas
+mod CodedViewLemmas
 pub mod CodedWalkLemmas
 pub mod FewLemmas
 pub mod GivenLemmas

@@ -21,12 +21,14 @@ use Rattle.hs_core_words.specs.Looking.{catalogue_of, group_of, operation_of, sh
 use Rattle.hs_core_words.specs.Operating.{begin_line, go_on_with, propose_entry, resume}
 use Rattle.hs_core_words.specs.Seeing.{pointers_for}
 use Rattle.hs_core_words.specs.State.{Core}
+use Rattle.hs_core_words.specs.Views.{begin_view}
 use Rattle.hs_desk.specs.declared.what.What.{What}
 use Rattle.hs_desk.specs.declared.what.What.TheVariants as what
 use Rattle.hs_effects.proofs.EffectLemmas.{committed_named}
 use Rattle.hs_effects.proofs.OrderlyLemmas.{Alike}
 use Rattle.hs_effects.proofs.QuietLemmas.{going_quiet, proposed_quiet}
 use Rattle.hs_effects.proofs.SweepLemmas.{ByViews}
+use Rattle.hs_effects.proofs.ViewLemmas.{view_began}
 use Rattle.hs_effects.specs.Lawful.{IsLawful, MayFollow}
 use Rattle.hs_effects.specs.Logged.{IsCalled, IsNewLine, IsOrderly}
 use Rattle.hs_effects.specs.Taking.{IsNamed, done_by, folds_behind, next_deed, setting_of, taken}
@@ -54,22 +56,24 @@ use Rattle.hs_replica.specs.Group.{committed}
 use Rattle.hs_rounds.specs.Rounds.{sent_back}
 use Rattle.hs_shard.specs.Rounds.{messages}
 use Rattle.hs_standing.proofs.AskedLemmas.{line_comes}
-use Rattle.hs_standing.proofs.AtomLemmas.{sent_again, sent_beside, sent_downed, sent_due, sent_effect, sent_goes, sent_line, sent_refused, sent_round, sent_told}
+use Rattle.hs_standing.proofs.AtomLemmas.{sent_again, sent_beside, sent_downed, sent_due, sent_effect, sent_goes, sent_line, sent_opens, sent_refused, sent_round, sent_told}
 use Rattle.hs_standing.proofs.CommandLemmas.{apart_of, commands_go_on, commands_same}
 use Rattle.hs_standing.proofs.EpochLemmas.{IsWithin, epochs_begin, epochs_go_on, epochs_propose, epochs_same, going_within, telling_within}
 use Rattle.hs_standing.proofs.HandleLemmas.{hold_addresses}
 use Rattle.hs_standing.proofs.HeldHeldLemmas.{held_again, held_beside, held_downed, held_due, held_effect, held_goes, held_line, held_refused, held_round, held_told}
+use Rattle.hs_standing.proofs.HeldOpenLemmas.{held_opens}
 use Rattle.hs_standing.proofs.HistoryLemmas.{Likewise, from_quiet, lawful_behind, lawful_on}
 use Rattle.hs_standing.proofs.Laws.{Entries, Steps}
 use Rattle.hs_standing.proofs.LegalEffectLemmas.{Ready, commands_effect, epochs_effect, tells_effect}
 use Rattle.hs_standing.proofs.LegalLineLemmas.{begun_quiet, commands_line, tells_line}
+use Rattle.hs_standing.proofs.LegalOpenLemmas.{began_commands, began_epochs, began_like, began_seats}
 use Rattle.hs_standing.proofs.LegalStepLemmas.{IsQuiet, tells_goes}
 use Rattle.hs_standing.proofs.MuteLemmas.{Words, at_once_quiet, proposed_words, words_of}
 use Rattle.hs_standing.proofs.OrderLemmas.{again_alike, orderly_again, orderly_beside, orderly_downed, orderly_due, orderly_effect, orderly_goes, orderly_line, orderly_refused, orderly_round, orderly_told}
-use Rattle.hs_standing.proofs.RestLemmas.{rests_again, rests_beside, rests_downed, rests_due, rests_effect, rests_follows, rests_goes, rests_line, rests_refused, rests_round, rests_told}
+use Rattle.hs_standing.proofs.RestLemmas.{rests_again, rests_beside, rests_downed, rests_due, rests_effect, rests_follows, rests_goes, rests_line, rests_opens, rests_refused, rests_round, rests_told}
 use Rattle.hs_standing.proofs.SameLemmas.{marked_or}
 use Rattle.hs_standing.proofs.SentWaitLemmas.{got_waits}
-use Rattle.hs_standing.proofs.StoredLemmas.{stored_again, stored_beside, stored_downed, stored_due, stored_effect, stored_goes, stored_line, stored_refused, stored_round}
+use Rattle.hs_standing.proofs.StoredLemmas.{stored_again, stored_beside, stored_downed, stored_due, stored_effect, stored_goes, stored_line, stored_opens, stored_refused, stored_round}
 use Rattle.hs_standing.proofs.TellLemmas.{TellsOn}
 use Rattle.hs_standing.proofs.ValidLemmas.{told_valid as run_valid}
 use Rattle.hs_standing.specs.Changes.{IsBeside, IsIdle, told_at_once}
@@ -215,6 +219,22 @@ module _ (views : ByViews) (steps : Steps) (reads : ReadsAnyBytes) (laws : Entri
       commanded = its.commanded;
       epochs = its.epochs;
       valid = its.valid;
+    }
+
+    steady_opens : (shard : ℕ) → shard < (shape_of c).shards → IsSteady name limits last (begin_view shard c) cs
+    steady_opens shard low = record {
+      commands = its.commands;
+      none_above = its.none_above;
+      limited = (began_like by shard c).limits ∙ its.limited;
+      orderly = view_began name shard c its.orderly;
+      lawful = lawful_on name c (begin_view shard c) cs (began_like by shard c) its.lawful;
+      sent = sent_opens name its.lawful.lawful.history c its.sent shard;
+      resting = rests_opens cs c its.resting shard (subst (λ (n : ℕ). shard < n) (sym its.lawful.folded.shards) low);
+      stored = stored_opens cs c its.stored shard;
+      addressed = held_opens shard c its.addressed;
+      commanded = began_commands by shard c its.commanded;
+      epochs = began_epochs by shard c its.epochs;
+      valid = same_seats (begin_view shard c) (began_seats by shard c);
     }
 
     -- ---- a client's line
@@ -508,6 +528,9 @@ module _ (views : ByViews) (steps : Steps) (reads : ReadsAnyBytes) (laws : Entri
     }
 
   -- ---- so each event keeps it
+
+  pub views_steady : (shard : ℕ) (c : Core) → shard < (shape_of c).shards → (cs : List Folded) × IsSteady name limits last c cs → (cs : List Folded) × IsSteady name limits last (begin_view shard c) cs
+  views_steady shard c low s = (s.0, steady_opens c s.0 s.1 shard low)
 
   pub walks_steady : Walks (λ line o c. IsFreshLine name last line o c) (λ number bytes w c. Unit {0}) (λ line. Unit {0}) (λ c. (cs : List Folded) × IsSteady name limits last c cs)
   walks_steady = record {

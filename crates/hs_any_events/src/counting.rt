@@ -1,16 +1,27 @@
 //! What the counts of a core are worth, whatever reports tell.
-ghost use Rattle.std.specs.Prelude.{ℕ, ◌+◌, take};
-ghost use Rattle.hs_any_events.specs.Events.{MayStepAll, IsCountedRight, StaysCountedRight};
+ghost use Rattle.std.specs.Prelude.{◌≡◌, ℕ, ◌+◌, List, Some, take};
+ghost use Rattle.hs_any_events.specs.Events.{AreCountedRight, ComesNext, IsCountedRight};
+ghost use Rattle.hs_any_events.specs.Events.{MayStepAll, OpensSoundly, StaysCountedRight};
+ghost use Rattle.hs_any_events.specs.Events.{Sweeps, SweepsRight, any_lines};
+ghost use Rattle.hs_anatomy.specs.Acts.{Acts, begun};
+ghost use Rattle.hs_core_words.specs.declared.event.Event.{Event};
+ghost use Rattle.hs_core_words.specs.Looking.{group_of};
+ghost use Rattle.hs_core_words.specs.State.{Core};
+ghost use Rattle.hs_effects.specs.Taking.{taken};
+ghost use Rattle.hs_entry.specs.declared.entry.Entry.{Entry};
 ghost use Rattle.hs_events.specs.Course.{steps};
 ghost use Rattle.hs_events.specs.Due.{Events};
-ghost use Rattle.hs_events.specs.Found.{Found, first_core};
+ghost use Rattle.hs_events.specs.Found.{Found, first_core, opens_with};
+ghost use Rattle.hs_fold.specs.Runs.Facts.{Catalogue as Folded};
 ghost use Rattle.hs_fold.specs.Shards.Setting.{Setting};
 ghost use Rattle.hs_limits.specs.Shape.{IsShape};
+ghost use Rattle.hs_replica.specs.Group.{committed};
 ghost use Rattle.hs_sound.specs.Stay.{AreSoundAlong};
+ghost use Rattle.hs_standing.specs.Copies.{AllComeOn, ComesOn};
+ghost use Rattle.hs_standing.specs.Held.{GivesAddresses};
 ghost use Rattle.hs_standing.specs.Lists.{whole_from};
 ghost use Rattle.hs_standing.specs.Opening.{opened_lists};
-ghost use Rattle.hs_standing.specs.Run.{RunOpens};
-ghost use Rattle.hs_standing.specs.Start.{Start};
+ghost use Rattle.hs_standing.specs.Opens.{MayOpen};
 
 use hs_answered::{
     a_read_is_the_judges, a_step_that_answers_is_the_judges, a_write_is_the_judges,
@@ -31,23 +42,42 @@ use hs_sound::histories_are_counted;
 use hs_standing::a_run_goes_on;
 
 /// The counts of a core are right, and so are its zero blocks: as it opens over sound lists, also where it
-/// has ended with that, for any number of copies (`opens`); and, with one copy of each shard, behind each
-/// front of any events, also where it has ended with one of them (`events`): whatever reports tell, whatever
-/// addresses writes bring, and whichever lines there are beside clients'. There the lists go from 1 on
-/// without a Base, and the core goes on as it opens; a client's line is above those before, and its write
-/// brings an address where it has a block; and a core that goes on has room for root records. Zero blocks
-/// are right by some naming of blocks then; and where a shard sweeps by the event that comes next, each older
-/// block of it that is out of reach was a zero block.
+/// has ended with that, for any number of copies (`opens`); and behind each front of any events, also where it
+/// has ended with one of them: whatever reports tell, whatever addresses writes bring, and whichever lines
+/// there are beside clients'. A client's line is above those before, and its write brings an address where it
+/// has a block. For any number of copies the core opens with folds of a lawful history; as long as it goes on
+/// it has its seats, what is known of copies is within their lists, and it has room for root records
+/// (`copies`), and where a shard sweeps by an entry that takes effect by the event that comes next, each older
+/// block of it that is out of reach there was a zero block (`exact`). With one copy of each shard the lists go from 1 on without a Base, the core goes on as it
+/// opens, and has room for root records as long as it does (`events`). Zero blocks are right by some naming of
+/// blocks then; and where a shard sweeps by the event that comes next, each older block of it that is out of
+/// reach was a zero block.
 pub fn counts_are_right_behind_any_events()
     ensures opens { (set : Setting) (found : Found)
         → IsShape set.shape
         → AreSoundAlong set (whole_from (opened_lists set found) 0 set.shape.shards) →
         IsCountedRight set.name (first_core set found) }
-    ensures events { (start : Start) (found : Found) (events : Events)
-        → RunOpens start found
-        → MayStepAll (first_core start.set found) events →
-        (n : ℕ) → StaysCountedRight (steps (first_core start.set found) (take n events))
-        (steps (first_core start.set found) (take (n + 1) events)) }
+    ensures copies { (set : Setting) (found : Found) (events : Events) (cs : List Folded)
+        → GivesAddresses set.name
+        → MayOpen (any_lines set) set.shape (opens_with set found) found.opened cs
+        → AllComeOn ComesNext (first_core set found) events →
+        (n : ℕ) → AreCountedRight (steps (first_core set found) (take n events)) }
+    ensures exact { (set : Setting) (found : Found) (events : Events) (event : Event)
+        (moment : ℕ) (cs : List Folded)
+        → GivesAddresses set.name
+        → MayOpen (any_lines set) set.shape (opens_with set found) found.opened cs
+        → AllComeOn ComesNext (first_core set found) events
+        → let core : Core = steps (first_core set found) events in
+        ComesOn ComesNext event core →
+        (reached : Core) → Acts (begun event moment core) (Some event) reached
+        → (shard number : ℕ) (entry : Entry)
+        → committed (group_of shard reached) ≡ Some (number, entry)
+        → Sweeps shard reached (taken shard entry reached) → SweepsRight shard entry reached }
+    ensures events { (set : Setting) (found : Found) (events : Events)
+        → OpensSoundly set found
+        → MayStepAll (first_core set found) events →
+        (n : ℕ) → StaysCountedRight (steps (first_core set found) (take n events))
+        (steps (first_core set found) (take (n + 1) events)) }
 {
     views_show_the_store();
     a_step_that_answers_is_the_judges();

@@ -86,7 +86,7 @@ module _ (commands : ℕ → Option Command) (name : List ℕ → Address) (limi
             };
           })
 
-pub ask_judged : (b : Began) (old new : Shown) (o : Op) (told : Reply) → AreAnswersOf b new → HasAsked old new o told → addressed b.name (store_now b old) o ≡ o → IsJudged b.limits (store_now b old) (store_now b new) o told
+pub ask_judged : {tells : Type 0} → (b : Began) (old new : Shown tells) (o : Op) (told : Reply) → AreAnswersOf b new → HasAsked old new o told → addressed b.name (store_now b old) o ≡ o → IsJudged b.limits (store_now b old) (store_now b new) o told
 ask_judged b old new o told law h named =
     let rest : List JournalEntry = h.front ++ h.entry ∷ h.back in
     let d : ℕ → Option Command = new.commands in

@@ -24,7 +24,7 @@ use Rattle.hs_model.specs.declared.op.Op.{Op}
 use Rattle.hs_model.specs.declared.op.Op.TheVariants as op
 use Rattle.hs_model.specs.declared.reply.Reply.{Reply}
 
-enter_retained : (s : Store) (shard : ℕ) (key : List ℕ) → retained_at (enter s shard) key ≡ retained_at s key
+pub enter_retained : (s : Store) (shard : ℕ) (key : List ℕ) → retained_at (enter s shard) key ≡ retained_at s key
 enter_retained s shard key =
     let entered : Store = record s { epochs = slice_set s.epochs shard (slice_index s.epochs shard + 1) } in
     find-filter (is_retained key) (stays entered) (λ root t. retained_stays entered key root t) s.roots

@@ -82,5 +82,5 @@ run_sane limits s [] l sane = sane
 run_sane limits s (e ∷ es) l sane = run_sane limits (step limits s e).store es l.1 (step_sane limits s e l.0 sane)
 
 -- so is the store of an asker, at each time
-pub answers_sane : (b : Began) (s : Shown) → AreAnswersOf b s → IsSane (store_now b s)
+pub answers_sane : {tells : Type 0} → (b : Began) (s : Shown tells) → AreAnswersOf b s → IsSane (store_now b s)
 answers_sane b s law = run_sane b.limits b.store (events_since b s) law.legal (record { valid = law.valid; distinct = law.distinct; blocks = law.blocks })

@@ -1,13 +1,13 @@
 -- What an ask does to what an asker tells.
 use Rattle.std.specs.List.{AllByRecursion}
-use Rattle.std.specs.Prelude.{ℕ, ◌≡◌, List, ◌∷◌, ◌++◌, Some, IsSome, IfSome}
+use Rattle.std.specs.Prelude.{ℕ, ◌≡◌, List, ◌∷◌, ◌++◌, Some, IsSome}
 use Rattle.hs_journal.specs.Events.{addressed, client_op}
 use Rattle.hs_journal.specs.declared.entry.JournalEntry.{JournalEntry}
 use Rattle.hs_journal.specs.declared.entry.Who.TheVariants as who
 use Rattle.hs_model.specs.declared.op.Op.{Op}
 use Rattle.hs_model.specs.declared.op.Op.TheVariants as op
 use Rattle.hs_model.specs.declared.reply.Reply.{Reply}
-use Rattle.hs_asking.specs.Shown.{Shown, store_now}
+use Rattle.hs_asking.specs.Shown.{IfTold, Shown, store_now}
 use Rattle.hs_asking.specs.Telling.{MayBeTold}
 
 -- ---- what may be asked
@@ -18,8 +18,8 @@ HasAddress (op.Write name payload handles address) = IsSome address
 HasAddress other = Unit {0}
 
 -- and where the store is told it is the one by which the write is judged: that of its block
-abbrev pub IsNamed : Shown → Op → Type 0
-IsNamed s o = HasAddress o × IfSome s.began (λ b. addressed b.name (store_now b s) o ≡ o)
+abbrev pub IsNamed : {tells : Type 0} → Shown tells → Op → Type 0
+IsNamed s o = HasAddress o × IfTold s (λ b. addressed b.name (store_now b s) o ≡ o)
 
 -- ---- what is answered
 
@@ -33,7 +33,7 @@ IsOfAnother line entry = entry.who ≡ who.Line line → ⊥
 
 -- the journal gets one entry of a line, a new one whose client asks for this operation, and its reply is the answer, which may be told of it;
 -- the entries around it are of no line, and what other lines ask for stays
-pub record HasAsked (old new : Shown) (o : Op) (told : Reply) : Type 0 where
+pub record HasAsked {tells : Type 0} (old new : Shown tells) (o : Op) (told : Reply) : Type 0 where
   pub line : ℕ
   pub front : List JournalEntry
   pub entry : JournalEntry

@@ -29,7 +29,7 @@ IsForALine entry = entry.who ≡ who.Shard 0 → entry.deed ≡ deed.Entered 0 �
 
 -- the store at which it began is valid, with no address twice, each block within its bounds and at its name, and none that leads back to itself;
 -- from there the journal is a legal run, which the plain store answers, and shard 0 enters for a line alone
-pub record AreAnswersOf (b : Began) (s : Shown) : Type 0 where
+pub record AreAnswersOf {tells : Type 0} (b : Began) (s : Shown tells) : Type 0 where
   pub valid : IsValid b.store
   pub distinct : HasDistinctAddresses b.store
   pub blocks : AreBlocks b.store

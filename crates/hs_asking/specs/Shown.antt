@@ -17,18 +17,22 @@ pub record Began : Type 0 where
   pub store : Store
 
 -- the operations that were asked for, in order; the command of each line so far; what was answered;
--- the fault that ended it, if one did; and with what it began, where that is told
-pub record Shown : Type 0 where
+-- the fault that ended it, if one did; and with what it began, which is told under a condition
+pub record Shown (tells : Type 0) : Type 0 where
   pub asked : List Op
   pub commands : ℕ → Option Command
   pub journal : List JournalEntry
   pub ended : Option CoreFault
-  pub began : Option Began
+  pub began : Began
+
+-- this holds of what an asker began with, where that is told
+abbrev pub IfTold : {tells : Type 0} → Shown tells → (Began → Type 0) → Type 0
+IfTold {tells} s P = tells → P s.began
 
 -- what happened since it began, by its journal
-abbrev pub events_since : Began → Shown → List Event
+abbrev pub events_since : {tells : Type 0} → Began → Shown tells → List Event
 events_since b s = events_of s.commands b.name b.limits b.store s.journal
 
 -- the store after that
-abbrev pub store_now : Began → Shown → Store
+abbrev pub store_now : {tells : Type 0} → Began → Shown tells → Store
 store_now b s = run b.limits b.store (events_since b s)

@@ -1,9 +1,9 @@
 //! Something that answers a client's operations, one at a time.
-ghost use Rattle.std.specs.Prelude.{◌≡◌, ◌∷◌, ◌++◌, [], IfOk, IfErr, IfSome, OnOk, Some, None};
+ghost use Rattle.std.specs.Prelude.{◌≡◌, ◌∷◌, ◌++◌, [], IfOk, IfErr, OnOk, Some, None};
 ghost use Rattle.hs_model.specs.Store.{held_at};
 ghost use Rattle.hs_asking.specs.Asked.{HasAsked, IsNamed};
 ghost use Rattle.hs_asking.specs.Lawful.{AreAnswersOf};
-ghost use Rattle.hs_asking.specs.Shown.{Shown, store_now};
+ghost use Rattle.hs_asking.specs.Shown.{IfTold, Shown, store_now};
 
 use hs_desk::CoreFault;
 use hs_limits::{Held, Name};
@@ -11,9 +11,11 @@ use hs_model::{Op, Reply};
 
 /// What asks a store for a client: each operation is answered before the next one is asked for.
 pub trait Asker {
-    /// What was asked for and answered so far, the fault that ended it, and with what it began, where
-    /// that is told.
-    ghost shows: { Self → Shown };
+    /// Where this holds it is told with what an asker of this type began.
+    ghost tells: { Type 0 };
+
+    /// What was asked for and answered so far, the fault that ended it, and with what it began.
+    ghost shows: { Self → Shown tells };
 
     /// Asks for an operation, and waits for its answer. A fault is the one that has ended the asker:
     /// then nothing more may be asked.
@@ -29,10 +31,11 @@ pub trait Asker {
 
     /// What a handle of a session stands for, where the store is told. It takes no memory.
     fn held(&self, session: &Name, handle: u32) -> Option<Held>
-        ensures { IfSome (shows self.now).began (λ b.
+        requires { (shows self.now).ended ≡ None }
+        ensures { IfTold (shows self.now) (λ b.
             result ≡ held_at (store_now b (shows self.now)) session.now handle) };
 
     /// Does nothing: what is told is lawful.
     fn known(&self)
-        ensures { IfSome (shows self.now).began (λ b. AreAnswersOf b (shows self.now)) };
+        ensures { IfTold (shows self.now) (λ b. AreAnswersOf b (shows self.now)) };
 }

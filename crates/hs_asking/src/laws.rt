@@ -14,14 +14,16 @@ ghost use Rattle.hs_model.specs.Store.{Root, Store, retained_at};
 ghost use Rattle.hs_model.specs.declared.op.Op.{Op};
 ghost use Rattle.hs_model.specs.declared.reply.Reply.{Reply};
 
+use crate::Asker;
+
 /// Where an asker tells with what it began, what is asked for is judged on the plain store, with what
 /// shards do by themselves before and behind it, while shard 0 stays in its epoch (`judged`). That store
 /// is valid all along, with blocks within their bounds (`sane`).
-pub fn an_ask_is_judged()
-    ensures judged { (b : Began) (old new : Shown) (o : Op) (told : Reply) →
+pub fn an_ask_is_judged<B: Asker>()
+    ensures judged { (b : Began) (old new : Shown B.tells) (o : Op) (told : Reply) →
         AreAnswersOf b new → HasAsked old new o told → addressed b.name (store_now b old) o ≡ o →
         IsJudged b.limits (store_now b old) (store_now b new) o told }
-    ensures sane { (b : Began) (s : Shown) → AreAnswersOf b s → IsSane (store_now b s) }
+    ensures sane { (b : Began) (s : Shown B.tells) → AreAnswersOf b s → IsSane (store_now b s) }
 {}
 
 /// Along legal events of which none drops its key a retained root stays, and all that its address leads

@@ -26,7 +26,7 @@ use Rattle.hs_moments.proofs.WorkLemmas.{last_is}
 use Rattle.hs_replica.specs.Group.{Group, new_group}
 use Rattle.hs_shard.specs.Apply.{apply}
 use Rattle.hs_shard.specs.Facts.{Catalogue, empty_catalogue}
-use Rattle.hs_clauses.proofs.EventLemmas.{numbers_change_view, numbers_each, numbers_end, numbers_if}
+use Rattle.hs_clauses.proofs.EventLemmas.{numbers_end, numbers_opening}
 use Rattle.hs_clauses.proofs.NumberLemmas.{within_applied}
 use Rattle.hs_clauses.specs.Numbered.{AreNumbered, AreWithin}
 
@@ -35,11 +35,7 @@ use Rattle.hs_clauses.specs.Numbered.{AreNumbered, AreWithin}
 opens_numbered : (shape : Shape) (limits : Limits) (found : Taken) (moment : ℕ) → AreNumbered (new_core shape limits found moment) → AreNumbered (open_core shape limits found moment)
 opens_numbered shape limits found moment its =
     let first : Core = new_core shape limits found moment in
-    let viewed : Core = begin_views first in
-    numbers_end (note_down viewed)
-    (numbers_each (all_peers (shape_of viewed)) note_if_down viewed
-    (λ peer x q. numbers_if (not (is_good_status (status_of peer x))) (note who.Store deed.Nothing (reply.Down peer 0)) x (λ y k. k) q)
-    (numbers_each (shards_of first) change_view first (λ shard x q. numbers_change_view shard x q) its))
+    numbers_end (note_down (begin_views first)) (numbers_opening first its)
 
 -- ---- the lists
 

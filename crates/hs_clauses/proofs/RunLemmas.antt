@@ -147,7 +147,7 @@ first_stands below start found o valid =
         awaiting = its.awaiting;
       };
       views = λ shard c low none its. record {
-        stands = standing_opens (judging_of start) shard c start.entry (opened_folds start.set found) its.stands low none;
+        stands = standing_opens (judging_of start) shard c start.entry (opened_folds start.set found) its.stands low;
         awaiting = awaiting_opens (opened_folds start.set found) shard c none;
       };
     })

@@ -303,6 +303,10 @@ works_cut head logs disks f peer now todo fault since works = record {
   logs = tt;
 }
 
+-- nothing is emptied
+pub nothing_emptied : (now : ℕ) (disk : Standing) (lists : ℕ → Numbered) → disk.last ≤ now → Since disk → LeavesAny disk lists → LeavesEach now now disk disk (IsAnyOrNone lists)
+nothing_emptied now disk lists last since leaves = stays_with now disk [] (IsAnyOrNone lists) last since (any_gives disk lists leaves)
+
 -- ---- every other disk
 
 pub beside_same : (tells : Type 0) (peer : ℕ) (todo : Option Job) (disks : List DiskSeen) → StandsBeside tells peer todo disks disks

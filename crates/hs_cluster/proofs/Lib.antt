@@ -9,8 +9,11 @@ pub mod EventLemmas
 pub mod FindLemmas
 pub mod FoundLemmas
 pub mod GoingOnLemmas
+pub mod GrowingLemmas
+pub mod HeadLemmas
 pub mod HeldLemmas
 pub mod JobLemmas
+pub mod JoiningLemmas
 pub mod LineLemmas
 pub mod OpenedLemmas
 pub mod OpeningMoves

@@ -5,6 +5,8 @@ use Rattle.hs_cluster.specs.Calls.{Does, ran_out}
 use Rattle.hs_cluster.specs.Counts.{NoneFalls}
 use Rattle.hs_cluster.specs.declared.fault.ClusterFault.{ClusterFault}
 use Rattle.hs_cluster.specs.declared.fault.ClusterFault.TheVariants as fault
+use Rattle.hs_cluster.specs.Growing.{GoesOn}
+use Rattle.hs_cluster.specs.Headed.{IsHeadedAt, StaysHeadedAt}
 use Rattle.hs_cluster.specs.Kept.{Shows, Span as Turns}
 use Rattle.hs_cluster.specs.Running.{Running}
 use Rattle.hs_core_words.specs.Opening.{Taken as Opened, open_core}
@@ -98,6 +100,9 @@ pub record HasTurned (tells : Type 0) (turns : Turns) (done : Result ⊤ Cluster
   -- a core that had ended does none
   pub still : IsSome turns.old.core.ended → turns.left ≡ turns.disks
   pub shows : Shows tells turns done events
+  -- the list of each peer only goes on, as long as its log is in use; and where a stop left its disk blank or with one header, and so its log, it leaves no other at each moment
+  pub goes_on : tells → (peer : ℕ) → GoesOn turns.old.logs turns.disks turns.new.logs turns.left peer
+  pub headed : tells → (peer : ℕ) (header : Header) → IsHeadedAt header turns.before turns.old.logs turns.disks peer → StaysHeadedAt header turns.before turns.now turns.disks turns.new.logs turns.left peer
 
 -- the cluster, the moment and the disks right before the first turn, and the turns
 pub record HasOpened (tells : Type 0) (set : Setting) (span : Span) (cluster : Running) (done : Result ⊤ ClusterFault) : Type 0 where

@@ -4,10 +4,13 @@ pub mod Calls
 pub mod Calm
 pub mod Counts
 pub mod Disks
+pub mod Growing
+pub mod Headed
 pub mod Jobs
 pub mod Kept
 pub mod Opens
 pub mod Past
+pub mod Resuming
 pub mod Rooms
 pub mod Running
 pub mod RunsOn

@@ -1,10 +1,12 @@
 //! The core with the logs of its peers.
-ghost use Rattle.std.specs.Prelude.{◌≡◌};
+ghost use Rattle.std.specs.Prelude.{◌≡◌, ◌*◌, [], None, length};
+ghost use Rattle.hs_cluster.specs.Resuming.{EndAsSealed};
+ghost use Rattle.hs_tokens.specs.Seats.{held_at, seat_of};
 
 use hs_core::Core;
 use hs_desk::CoreFault;
 use hs_journal::Journal;
-use hs_limits::ListOf;
+use hs_limits::{Held, ListOf, Name};
 use hs_model::CourseItem;
 use hs_peerlog::PeerLog;
 use std::alloc::Global;
@@ -55,6 +57,43 @@ impl Cluster {
     {
         let Cluster { core, course, .. } = self;
         (core, ListOf::from_vec(course))
+    }
+
+    /// The core, and by peer the log of its disk, where that is in use. The course is dropped. It takes
+    /// no memory.
+    pub fn into_parts(self) -> (Core, Vec<Option<PeerLog>>)
+        ensures core { result.0 ≡ self.core }
+        ensures logs { result.1.items ≡ self.logs }
+    {
+        let Cluster { core, logs, .. } = self;
+        (core, logs)
+    }
+
+    /// The cluster of a core that goes on, with the logs of its peers: there is one for each peer that
+    /// is not down, which ends with the last entry that the peer has sealed. Its course is empty. It
+    /// takes no memory.
+    pub fn resume(alloc: Global, core: Core, logs: Vec<Option<PeerLog>>) -> Cluster
+        requires going { core.ended ≡ None }
+        requires count { length logs.items
+            ≡ core.members.shape.shards * core.members.shape.copies }
+        requires lasts { EndAsSealed core logs.items }
+        ensures { result ≡ record { core = core; logs = logs.items; course = [] } }
+    {
+        let course = Vec::new(alloc);
+        Cluster {
+            alloc,
+            core,
+            logs,
+            course,
+        }
+    }
+
+    /// What a handle of a session stands for. None exactly where the session does not hold it. It takes
+    /// no memory.
+    pub fn held(&self, session: &Name, handle: u32) -> Option<Held>
+        ensures { result ≡ held_at (seat_of session.now self.now.core.sessions) handle }
+    {
+        self.core.held(session, handle)
     }
 
     /// Why the core has ended. None exactly until a fault has ended it. It takes no memory.

@@ -1,7 +1,10 @@
 //! One event, with its items of the course.
-ghost use Rattle.std.specs.Prelude.{◌≡◌, ◌≤◌, None, OnOk};
+ghost use Rattle.std.specs.Prelude.{◌≡◌, ◌≤◌, ℕ, None, OnOk, false};
 ghost use Rattle.hs_cluster.specs.Calls.{Does, done_of};
+ghost use Rattle.hs_cluster.specs.Growing.{is_start};
 ghost use Rattle.hs_core_words.specs.Calls.{IsNextLine, last_line_after};
+ghost use Rattle.hs_core_words.specs.Looking.{status_of};
+ghost use Rattle.hs_members.specs.Members.{is_joining};
 
 use crate::{Cluster, ClusterFault};
 use hs_core_words::Event;
@@ -22,6 +25,10 @@ impl Cluster {
         ensures moment { self.new.core.moment ≤ moment }
         ensures last_line { OnOk result
             (self.new.core.progress.last_line ≡ last_line_after event self.old.core) }
+        // Nobody begins to join but by the line that starts it.
+        ensures joins { (peer : ℕ) → is_start peer event ≡ false
+            → is_joining (status_of peer self.old.core) ≡ false
+            → OnOk result (is_joining (status_of peer self.new.core) ≡ false) }
     {
         let shape = self.core.shape();
         let peers = shape.shards * shape.copies;

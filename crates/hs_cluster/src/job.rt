@@ -3,8 +3,10 @@ ghost use Rattle.std.specs.Prelude.{◌≡◌, ◌≢◌, ◌*◌, ◌+◌, ◌�
 ghost use Rattle.hs_cluster.specs.declared.fault.ClusterFault.TheVariants.{NoMemory};
 ghost use Rattle.hs_cluster.specs.Counts.{AllStandUntold, HasAllPaid, HasPaid, IsCopyPaid, IsPaid, NoneFalls, StandsUntold};
 ghost use Rattle.hs_cluster.specs.Disks.{AreReady, IsSlotReady, log_at, seen_as, seen_at, stands_of};
+ghost use Rattle.hs_cluster.specs.Growing.{GoesOn, SlotGoesOn};
+ghost use Rattle.hs_cluster.specs.Headed.{IsHeaded, IsHeadedAt, StaysHeaded, StaysHeadedAt};
 ghost use Rattle.hs_cluster.specs.Jobs.{Empties, FailsAlone, HasCopied, HasStored, ReadsOn, StandsBeside, TellsBytes, Tries, Works, is_own};
-ghost use Rattle.hs_core_words.specs.Looking.{catalogue_of, first_job, home};
+ghost use Rattle.hs_core_words.specs.Looking.{catalogue_of, first_job, home, status_of};
 ghost use Rattle.hs_entry.specs.declared.entry.Entry.{Entry};
 ghost use Rattle.hs_events.specs.Asked.{failed_disk};
 ghost use Rattle.hs_events.specs.Due.{is_answer};
@@ -13,7 +15,7 @@ ghost use Rattle.hs_desk.specs.Answers.{answers};
 ghost use Rattle.hs_desk.specs.declared.done.Done.TheVariants as done;
 ghost use Rattle.hs_desk.specs.declared.job.Job.{Job};
 ghost use Rattle.hs_desk.specs.declared.job.Job.TheVariants as job;
-ghost use Rattle.hs_members.specs.Members.{IsPeer};
+ghost use Rattle.hs_members.specs.Members.{IsPeer, is_joining};
 ghost use Rattle.hs_fold.specs.Shards.Setting.{Numbered};
 ghost use Rattle.hs_peerlog.specs.Lists.{HasLog, IsKept, IsReady, Keeping, numbered_entry};
 ghost use Rattle.hs_ports.specs.Moments.{disk_at};
@@ -25,7 +27,7 @@ use crate::work::{do_own, empty_disk, keep_copy};
 use hs_core::Core;
 use hs_desk::{Done, Job};
 use hs_entry::Entry;
-use hs_limits::Shape;
+use hs_limits::PeerStatus;
 use hs_members::home_of;
 use hs_peerlog::{LogFault, PeerLog};
 use hs_ports::{Disk, Watch};
@@ -69,6 +71,21 @@ pub(crate) fn do_job<D: Disk>(
     ensures beside { StandsBeside D.tells peer (first_job peer core.now)
         (map (λ disk. seen_as (D.size disk) (D.stands disk) (D.faults disk)) disks.old)
         (map (λ disk. seen_as (D.size disk) (D.stands disk) (D.faults disk)) disks.new) }
+    // The list of a peer that is not joining only goes on, as long as its log is in use.
+    ensures goes_on { D.tells → (p : ℕ) → is_joining (status_of p core.now) ≡ false
+        → GoesOn logs.old.items
+        (map (λ disk. seen_as (D.size disk) (D.stands disk) (D.faults disk)) disks.old)
+        logs.new.items
+        (map (λ disk. seen_as (D.size disk) (D.stands disk) (D.faults disk)) disks.new) p }
+    // Nor does a stop leave another header on its disk than was there.
+    ensures headed { D.tells → (p : ℕ) → is_joining (status_of p core.now) ≡ false
+        → (header : Header)
+        → IsHeadedAt header watch.old logs.old.items
+        (map (λ disk. seen_as (D.size disk) (D.stands disk) (D.faults disk)) disks.old) p
+        → StaysHeadedAt header watch.old watch.new
+        (map (λ disk. seen_as (D.size disk) (D.stands disk) (D.faults disk)) disks.old)
+        logs.new.items
+        (map (λ disk. seen_as (D.size disk) (D.stands disk) (D.faults disk)) disks.new) p }
     // No count falls. That of a disk whose failed call is told rose, but for a job that only read.
     ensures later { NoneFalls
         (map (λ disk. seen_as (D.size disk) (D.stands disk) (D.faults disk)) disks.old)
@@ -112,10 +129,10 @@ pub(crate) fn do_job<D: Disk>(
     match job {
         Job::Reset => do_reset(
             alloc,
+            core,
             &mut logs[place],
             &mut disks[place],
             watch,
-            core.shape(),
             peer,
         ),
         Job::Copy { from, number } => do_copy(logs, disks, watch, peer, *from, *number),
@@ -166,6 +183,17 @@ fn do_copy<D: Disk>(
     ensures beside { StandsBeside D.tells peer (Some (job.Copy from number))
         (map (λ disk. seen_as (D.size disk) (D.stands disk) (D.faults disk)) disks.old)
         (map (λ disk. seen_as (D.size disk) (D.stands disk) (D.faults disk)) disks.new) }
+    ensures goes_on { D.tells → (p : ℕ) → GoesOn logs.old.items
+        (map (λ disk. seen_as (D.size disk) (D.stands disk) (D.faults disk)) disks.old)
+        logs.new.items
+        (map (λ disk. seen_as (D.size disk) (D.stands disk) (D.faults disk)) disks.new) p }
+    ensures headed { D.tells → (p : ℕ) → (header : Header)
+        → IsHeadedAt header watch.old logs.old.items
+        (map (λ disk. seen_as (D.size disk) (D.stands disk) (D.faults disk)) disks.old) p
+        → StaysHeadedAt header watch.old watch.new
+        (map (λ disk. seen_as (D.size disk) (D.stands disk) (D.faults disk)) disks.old)
+        logs.new.items
+        (map (λ disk. seen_as (D.size disk) (D.stands disk) (D.faults disk)) disks.new) p }
     ensures later { NoneFalls
         (map (λ disk. seen_as (D.size disk) (D.stands disk) (D.faults disk)) disks.old)
         (map (λ disk. seen_as (D.size disk) (D.stands disk) (D.faults disk)) disks.new) }
@@ -237,6 +265,12 @@ fn do_usual<D: Disk>(
       new = D.stands disk.new;
     }) (Some job.now) result }
     ensures fails { IfOk result (FailsAlone peer) }
+    ensures goes_on { D.tells
+        → SlotGoesOn slot.old slot.new (D.stands disk.old) (D.stands disk.new) }
+    ensures headed { D.tells → (header : Header)
+        → IsHeaded header watch.old slot.old (D.stands disk.old)
+        → StaysHeaded header watch.old watch.new (D.stands disk.old) (D.stands disk.new)
+        slot.new }
     ensures later { D.faults disk.old ≤ D.faults disk.new }
     ensures paid { (at : ℕ) → only_reads at job.now ≡ false
         → IfOk result (IsPaid peer (D.faults disk.old) (D.faults disk.new)) }
@@ -270,22 +304,24 @@ fn do_usual<D: Disk>(
     }
 }
 
-/// Empties the disk of a peer. Its log is in use from then on.
+/// Empties the disk of a peer that is joining. Its log is in use from then on. That of a peer which
+/// is not joining is never emptied: it counts as want of memory.
 fn do_reset<D: Disk>(
     alloc: Global,
+    core: &Core,
     slot: &mut Option<PeerLog>,
     disk: &mut D,
     watch: &mut Watch,
-    shape: Shape,
     peer: u8,
 ) -> Result<Done, ClusterFault>
+    requires peer { IsPeer core.now.members.shape peer }
     ensures answer { IfOk result (λ told. answers peer job.Reset told ≡ true) }
     ensures bytes { IfOk result TellsBytes }
     ensures only { IsOkUnless result NoMemory }
     ensures ready { OnOk result
         (IsSlotReady D.tells slot.new (D.size disk.new) (D.stands disk.new)) }
     ensures empties { D.tells → (D.stands disk.old).last ≤ watch.old
-        → Empties (own_header shape peer) (record {
+        → Empties (own_header core.now.members.shape peer) (record {
           before = watch.old;
           now = watch.new;
           slot = slot.old;
@@ -294,13 +330,23 @@ fn do_reset<D: Disk>(
           new = D.stands disk.new;
         }) result }
     ensures fails { IfOk result (FailsAlone peer) }
+    ensures goes_on { D.tells → is_joining (status_of peer core.now) ≡ false
+        → SlotGoesOn slot.old slot.new (D.stands disk.old) (D.stands disk.new) }
+    ensures headed { D.tells → is_joining (status_of peer core.now) ≡ false
+        → (header : Header)
+        → IsHeaded header watch.old slot.old (D.stands disk.old)
+        → StaysHeaded header watch.old watch.new (D.stands disk.old) (D.stands disk.new)
+        slot.new }
     ensures later { D.faults disk.old ≤ D.faults disk.new }
     ensures paid { IfOk result (IsPaid peer (D.faults disk.old) (D.faults disk.new)) }
     ensures calm { IfOk result (StandsUntold peer (D.faults disk.old) (D.faults disk.new)) }
     ensures ticks { watch.old ≤ watch.new }
 {
+    if !is_joining(core.status(peer)) {
+        return Err(ClusterFault::NoMemory);
+    }
     *slot = None;
-    match empty_disk(alloc, disk, watch, shape, peer) {
+    match empty_disk(alloc, disk, watch, core.shape(), peer) {
         Ok(log) => {
             *slot = Some(log);
             Ok(Done::Emptied)
@@ -309,6 +355,16 @@ fn do_reset<D: Disk>(
         Err(LogFault::Disk) | Err(LogFault::NotALog { .. }) | Err(LogFault::WrongShape { .. }) => {
             Ok(Done::Failed { disk: peer })
         }
+    }
+}
+
+/// Whether a status is Joining.
+fn is_joining(status: PeerStatus) -> bool
+    ensures { result ≡ is_joining status }
+{
+    match status {
+        PeerStatus::Joining => true,
+        PeerStatus::Good | PeerStatus::Down => false,
     }
 }
 
@@ -387,6 +443,12 @@ fn write_copy<D: Disk>(
           new = D.stands disk.new;
         }) peer from number source list result }
     ensures fails { IfOk result (FailsAlone peer) }
+    ensures goes_on { D.tells
+        → SlotGoesOn slot.old slot.new (D.stands disk.old) (D.stands disk.new) }
+    ensures headed { D.tells → (header : Header)
+        → IsHeaded header watch.old slot.old (D.stands disk.old)
+        → StaysHeaded header watch.old watch.new (D.stands disk.old) (D.stands disk.new)
+        slot.new }
     ensures later { D.faults disk.old ≤ D.faults disk.new }
     ensures paid { IfOk result (IsPaid peer (D.faults disk.old) (D.faults disk.new)) }
     ensures calm { IfOk result (StandsUntold peer (D.faults disk.old) (D.faults disk.new)) }

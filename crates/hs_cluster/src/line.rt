@@ -3,14 +3,18 @@ ghost use Rattle.std.specs.Prelude.{◌≡◌, ◌≢◌, ◌*◌, ◌<◌, ◌�
 ghost use Rattle.hs_cluster.specs.Calls.{RunsLine, of_core};
 ghost use Rattle.hs_events.specs.Commands.{is_served, uses_disks};
 ghost use Rattle.hs_cluster.specs.Disks.{AreReady, DiskSeen, log_at, seen_as};
+ghost use Rattle.hs_cluster.specs.Growing.{GoesOn};
+ghost use Rattle.hs_cluster.specs.Headed.{IsHeadedAt, StaysHeadedAt};
 ghost use Rattle.hs_cluster.specs.Jobs.{StandsBeside};
 ghost use Rattle.hs_cluster.specs.Kept.{Shows};
-ghost use Rattle.hs_core_words.specs.Looking.{first_job};
+ghost use Rattle.hs_core_words.specs.Looking.{first_job, status_of};
 ghost use Rattle.hs_desk.specs.declared.fault.CoreFault.{CoreFault};
 ghost use Rattle.hs_limits.specs.declared.address.Address.{Address};
+ghost use Rattle.hs_members.specs.Members.{is_joining};
 ghost use Rattle.hs_model.specs.declared.command.Command.TheVariants as command;
-ghost use Rattle.hs_model.specs.declared.command.Command.TheVariants.{Fail, Turn};
+ghost use Rattle.hs_model.specs.declared.command.Command.TheVariants.{Fail, Start, Turn};
 ghost use Rattle.hs_peerlog.specs.Lists.{Keeping};
+ghost use Rattle.hs_side.specs.declared.header.Header.{Header};
 
 use crate::{Cluster, ClusterFault};
 use hs_block::Addresser;
@@ -69,6 +73,25 @@ impl Cluster {
         ensures falls { (peer : ℕ) → command ≡ Fail peer → (p : ℕ) → p ≢ peer
             → log_at self.new.logs p ≡ log_at self.old.logs p }
 
+        // The list of a peer that is not joining only goes on, as long as its log is in use; and nobody
+        // begins to join but by a line that starts it.
+        ensures goes_on { D.tells → (peer : ℕ) → is_joining (status_of peer self.old.core) ≡ false
+            → GoesOn self.old.logs
+            (map (λ disk. seen_as (D.size disk) (D.stands disk) (D.faults disk)) disks.old)
+            self.new.logs
+            (map (λ disk. seen_as (D.size disk) (D.stands disk) (D.faults disk)) disks.new) peer }
+        // Nor does a stop leave another header on its disk, where none did before and the log has this.
+        ensures headed { D.tells → (p : ℕ) → is_joining (status_of p self.old.core) ≡ false
+            → (header : Header) → IsHeadedAt header watch.old self.old.logs
+            (map (λ disk. seen_as (D.size disk) (D.stands disk) (D.faults disk)) disks.old) p
+            → StaysHeadedAt header watch.old watch.new
+            (map (λ disk. seen_as (D.size disk) (D.stands disk) (D.faults disk)) disks.old)
+            self.new.logs
+            (map (λ disk. seen_as (D.size disk) (D.stands disk) (D.faults disk)) disks.new) p }
+        ensures joins { (peer : ℕ) → command ≢ Start peer
+            → is_joining (status_of peer self.old.core) ≡ false
+            → OnOk result (is_joining (status_of peer self.new.core) ≡ false) }
+
         ensures ready { OnOk result (AreReady D.tells self.new.logs
             (map (λ disk. seen_as (D.size disk) (D.stands disk) (D.faults disk)) disks.new)) }
         ensures count { length disks.new ≡ length disks.old }
@@ -118,6 +141,8 @@ impl Cluster {
               left = disks;
             }) result) }
         ensures logs { self.new.logs ≡ self.old.logs }
+        ensures joins { (p : ℕ) → is_joining (status_of p self.old.core) ≡ false
+            → OnOk result (is_joining (status_of p self.new.core) ≡ false) }
         ensures shape { self.new.core.members.shape ≡ self.old.core.members.shape }
         ensures moment { self.new.core.moment ≤ moment }
     {
@@ -144,6 +169,8 @@ impl Cluster {
         ensures own { OnOk result (log_at self.new.logs peer ≡ None) }
         ensures others { (p : ℕ) → p ≢ peer
             → log_at self.new.logs p ≡ log_at self.old.logs p }
+        ensures joins { (p : ℕ) → is_joining (status_of p self.old.core) ≡ false
+            → OnOk result (is_joining (status_of p self.new.core) ≡ false) }
         ensures shape { self.new.core.members.shape ≡ self.old.core.members.shape }
         ensures moment { self.new.core.moment ≤ moment }
     {
@@ -197,6 +224,20 @@ impl Cluster {
         ensures beside { StandsBeside D.tells peer (first_job peer self.old.core)
             (map (λ disk. seen_as (D.size disk) (D.stands disk) (D.faults disk)) disks.old)
             (map (λ disk. seen_as (D.size disk) (D.stands disk) (D.faults disk)) disks.new) }
+        ensures goes_on { D.tells → (p : ℕ) → is_joining (status_of p self.old.core) ≡ false
+            → GoesOn self.old.logs
+            (map (λ disk. seen_as (D.size disk) (D.stands disk) (D.faults disk)) disks.old)
+            self.new.logs
+            (map (λ disk. seen_as (D.size disk) (D.stands disk) (D.faults disk)) disks.new) p }
+        ensures headed { D.tells → (p : ℕ) → is_joining (status_of p self.old.core) ≡ false
+            → (header : Header) → IsHeadedAt header watch.old self.old.logs
+            (map (λ disk. seen_as (D.size disk) (D.stands disk) (D.faults disk)) disks.old) p
+            → StaysHeadedAt header watch.old watch.new
+            (map (λ disk. seen_as (D.size disk) (D.stands disk) (D.faults disk)) disks.old)
+            self.new.logs
+            (map (λ disk. seen_as (D.size disk) (D.stands disk) (D.faults disk)) disks.new) p }
+        ensures joins { (p : ℕ) → is_joining (status_of p self.old.core) ≡ false
+            → OnOk result (is_joining (status_of p self.new.core) ≡ false) }
         ensures ready { OnOk result (AreReady D.tells self.new.logs
             (map (λ disk. seen_as (D.size disk) (D.stands disk) (D.faults disk)) disks.new)) }
         ensures count { length disks.new ≡ length disks.old }

@@ -1,13 +1,14 @@
 //! Opening a cluster.
-ghost use Rattle.std.specs.Prelude.{◌≡◌, ◌*◌, ◌++◌, ◌<◌, ◌≤◌, ℕ, None, flat_map, is_some, length, map, IfErr, IfOk, OnErr, OnOk};
+ghost use Rattle.std.specs.Prelude.{◌≡◌, ◌*◌, ◌++◌, ◌<◌, ◌≤◌, ℕ, None, false, flat_map, is_some, length, map, IfErr, IfOk, OnErr, OnOk};
 ghost use Rattle.hs_cluster.specs.Begins.{Begins, HasOpened, IsClosed, bad_of, begun_course, good_of, is_took, of_taking, opened_with, took_of};
 ghost use Rattle.hs_cluster.specs.Counts.{NoneFalls};
 ghost use Rattle.hs_cluster.specs.Disks.{AreReady, log_at, seen_as, seen_at};
 ghost use Rattle.hs_cluster.specs.Opens.{Opens};
 ghost use Rattle.hs_cluster.specs.Unopened.{LeavesAsTaken};
+ghost use Rattle.hs_core_words.specs.Looking.{status_of};
 ghost use Rattle.hs_core_words.specs.Opening.{open_core};
 ghost use Rattle.hs_limits.specs.Shape.{IsShape};
-ghost use Rattle.hs_members.specs.Members.{IsPeer, all_peers};
+ghost use Rattle.hs_members.specs.Members.{IsPeer, all_peers, is_joining};
 ghost use Rattle.hs_side.specs.declared.header.Header.{Header};
 ghost use Rattle.hs_taking.specs.Spared.{SparesDisks};
 ghost use Rattle.hs_taking.specs.Viewed.{IsOnlyRead};
@@ -99,6 +100,9 @@ impl Cluster {
           old = map (λ disk. seen_as (D.size disk) (D.stands disk) (D.faults disk)) disks.old;
           new = map (λ disk. seen_as (D.size disk) (D.stands disk) (D.faults disk)) disks.new;
         })) }
+        // Nobody is joining behind it.
+        ensures joins { IfOk result (λ opened. OnOk opened.done
+            ((peer : ℕ) → is_joining (status_of peer opened.cluster.core) ≡ false)) }
         ensures ready { IfOk result (λ opened. OnOk opened.done (AreReady D.tells
             opened.cluster.logs
             (map (λ disk. seen_as (D.size disk) (D.stands disk) (D.faults disk)) disks.new))) }

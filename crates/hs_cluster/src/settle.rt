@@ -1,15 +1,18 @@
 //! Turns and nudges, one after another.
 ghost use Rattle.std.specs.List.{list_any};
-ghost use Rattle.std.specs.Prelude.{◌≡◌, ◌*◌, ◌<◌, ◌≤◌, ℕ, None, length, map, nat_lt, slice_index_or, IfSome, OnOk};
+ghost use Rattle.std.specs.Prelude.{◌≡◌, ◌*◌, ◌<◌, ◌≤◌, ℕ, None, false, length, map, nat_lt, slice_index_or, IfSome, OnOk};
 ghost use Rattle.hs_events.specs.declared.due.Due.TheVariants.{Reporting};
 ghost use Rattle.hs_cluster.specs.Disks.{AreReady, seen_as};
+ghost use Rattle.hs_cluster.specs.Growing.{GoesOn};
+ghost use Rattle.hs_cluster.specs.Headed.{IsHeadedAt, StaysHeadedAt};
 ghost use Rattle.hs_cluster.specs.Kept.{Shows};
 ghost use Rattle.hs_events.specs.Due.{place_after, raises_known};
 ghost use Rattle.hs_cluster.specs.Settling.{DoesDue, RunsWalk, due_with};
 ghost use Rattle.hs_events.specs.Due.{IsDueOf, peer_due};
 ghost use Rattle.hs_cluster.specs.Jobs.{StandsBeside};
-ghost use Rattle.hs_core_words.specs.Looking.{first_job, known_of};
-ghost use Rattle.hs_members.specs.Members.{IsPeer, all_peers};
+ghost use Rattle.hs_core_words.specs.Looking.{first_job, known_of, status_of};
+ghost use Rattle.hs_members.specs.Members.{IsPeer, all_peers, is_joining};
+ghost use Rattle.hs_side.specs.declared.header.Header.{Header};
 
 use crate::job::do_job;
 use crate::{Cluster, ClusterFault};
@@ -44,6 +47,20 @@ impl Cluster {
               disks = map (λ disk. seen_as (D.size disk) (D.stands disk) (D.faults disk)) disks.old;
               left = map (λ disk. seen_as (D.size disk) (D.stands disk) (D.faults disk)) disks.new;
             }) result) }
+        ensures goes_on { D.tells → (p : ℕ) → is_joining (status_of p self.old.core) ≡ false
+            → GoesOn self.old.logs
+            (map (λ disk. seen_as (D.size disk) (D.stands disk) (D.faults disk)) disks.old)
+            self.new.logs
+            (map (λ disk. seen_as (D.size disk) (D.stands disk) (D.faults disk)) disks.new) p }
+        ensures headed { D.tells → (p : ℕ) → is_joining (status_of p self.old.core) ≡ false
+            → (header : Header) → IsHeadedAt header watch.old self.old.logs
+            (map (λ disk. seen_as (D.size disk) (D.stands disk) (D.faults disk)) disks.old) p
+            → StaysHeadedAt header watch.old watch.new
+            (map (λ disk. seen_as (D.size disk) (D.stands disk) (D.faults disk)) disks.old)
+            self.new.logs
+            (map (λ disk. seen_as (D.size disk) (D.stands disk) (D.faults disk)) disks.new) p }
+        ensures joins { (p : ℕ) → is_joining (status_of p self.old.core) ≡ false
+            → OnOk result (is_joining (status_of p self.new.core) ≡ false) }
         ensures ready { OnOk result (AreReady D.tells self.new.logs
             (map (λ disk. seen_as (D.size disk) (D.stands disk) (D.faults disk)) disks.new)) }
         ensures count { length disks.new ≡ length disks.old }
@@ -93,6 +110,20 @@ impl Cluster {
             }) result) }
         ensures place { OnOk result (place.new
             ≡ place_after due (raises_known self.old.core self.new.core) place.old) }
+        ensures goes_on { D.tells → (p : ℕ) → is_joining (status_of p self.old.core) ≡ false
+            → GoesOn self.old.logs
+            (map (λ disk. seen_as (D.size disk) (D.stands disk) (D.faults disk)) disks.old)
+            self.new.logs
+            (map (λ disk. seen_as (D.size disk) (D.stands disk) (D.faults disk)) disks.new) p }
+        ensures headed { D.tells → (p : ℕ) → is_joining (status_of p self.old.core) ≡ false
+            → (header : Header) → IsHeadedAt header watch.old self.old.logs
+            (map (λ disk. seen_as (D.size disk) (D.stands disk) (D.faults disk)) disks.old) p
+            → StaysHeadedAt header watch.old watch.new
+            (map (λ disk. seen_as (D.size disk) (D.stands disk) (D.faults disk)) disks.old)
+            self.new.logs
+            (map (λ disk. seen_as (D.size disk) (D.stands disk) (D.faults disk)) disks.new) p }
+        ensures joins { (p : ℕ) → is_joining (status_of p self.old.core) ≡ false
+            → OnOk result (is_joining (status_of p self.new.core) ≡ false) }
         ensures ready { OnOk result (AreReady D.tells self.new.logs
             (map (λ disk. seen_as (D.size disk) (D.stands disk) (D.faults disk)) disks.new)) }
         ensures count { length disks.new ≡ length disks.old }
@@ -136,6 +167,20 @@ impl Cluster {
         ensures beside { StandsBeside D.tells (peer_due due) (first_job (peer_due due) self.old.core)
             (map (λ disk. seen_as (D.size disk) (D.stands disk) (D.faults disk)) disks.old)
             (map (λ disk. seen_as (D.size disk) (D.stands disk) (D.faults disk)) disks.new) }
+        ensures goes_on { D.tells → (p : ℕ) → is_joining (status_of p self.old.core) ≡ false
+            → GoesOn self.old.logs
+            (map (λ disk. seen_as (D.size disk) (D.stands disk) (D.faults disk)) disks.old)
+            self.new.logs
+            (map (λ disk. seen_as (D.size disk) (D.stands disk) (D.faults disk)) disks.new) p }
+        ensures headed { D.tells → (p : ℕ) → is_joining (status_of p self.old.core) ≡ false
+            → (header : Header) → IsHeadedAt header watch.old self.old.logs
+            (map (λ disk. seen_as (D.size disk) (D.stands disk) (D.faults disk)) disks.old) p
+            → StaysHeadedAt header watch.old watch.new
+            (map (λ disk. seen_as (D.size disk) (D.stands disk) (D.faults disk)) disks.old)
+            self.new.logs
+            (map (λ disk. seen_as (D.size disk) (D.stands disk) (D.faults disk)) disks.new) p }
+        ensures joins { (p : ℕ) → is_joining (status_of p self.old.core) ≡ false
+            → OnOk result (is_joining (status_of p self.new.core) ≡ false) }
         ensures ready { OnOk result (AreReady D.tells self.new.logs
             (map (λ disk. seen_as (D.size disk) (D.stands disk) (D.faults disk)) disks.new)) }
         ensures count { length disks.new ≡ length disks.old }
@@ -180,6 +225,20 @@ impl Cluster {
         ensures beside { StandsBeside D.tells peer (first_job peer self.old.core)
             (map (λ disk. seen_as (D.size disk) (D.stands disk) (D.faults disk)) disks.old)
             (map (λ disk. seen_as (D.size disk) (D.stands disk) (D.faults disk)) disks.new) }
+        ensures goes_on { D.tells → (p : ℕ) → is_joining (status_of p self.old.core) ≡ false
+            → GoesOn self.old.logs
+            (map (λ disk. seen_as (D.size disk) (D.stands disk) (D.faults disk)) disks.old)
+            self.new.logs
+            (map (λ disk. seen_as (D.size disk) (D.stands disk) (D.faults disk)) disks.new) p }
+        ensures headed { D.tells → (p : ℕ) → is_joining (status_of p self.old.core) ≡ false
+            → (header : Header) → IsHeadedAt header watch.old self.old.logs
+            (map (λ disk. seen_as (D.size disk) (D.stands disk) (D.faults disk)) disks.old) p
+            → StaysHeadedAt header watch.old watch.new
+            (map (λ disk. seen_as (D.size disk) (D.stands disk) (D.faults disk)) disks.old)
+            self.new.logs
+            (map (λ disk. seen_as (D.size disk) (D.stands disk) (D.faults disk)) disks.new) p }
+        ensures joins { (p : ℕ) → is_joining (status_of p self.old.core) ≡ false
+            → OnOk result (is_joining (status_of p self.new.core) ≡ false) }
         ensures ready { OnOk result (AreReady D.tells self.new.logs
             (map (λ disk. seen_as (D.size disk) (D.stands disk) (D.faults disk)) disks.new)) }
         ensures count { length disks.new ≡ length disks.old }

@@ -1,6 +1,7 @@
 //! One job on the disk of a peer.
 ghost use Rattle.std.specs.Option.{option_map};
 ghost use Rattle.std.specs.Prelude.{◌≡◌, ◌⊎◌, ◌+◌, ◌==◌, ◌&&◌, ◌≤◌, ℕ, List, [], Option, None, Some, not, true, false, is_some, IfOk, IfErr, OnOk};
+ghost use Rattle.hs_cluster.specs.Headed.{IsHeaded, LeavesHeaded};
 ghost use Rattle.hs_cluster.specs.Jobs.{AreBytes, HasStored, IsAnyOrNone, Leaves, ReadsOn, TellsBytes, is_own, sealed_list};
 ghost use Rattle.hs_desk.specs.Answers.{answers};
 ghost use Rattle.hs_desk.specs.declared.done.Done.TheVariants as done;
@@ -15,6 +16,7 @@ ghost use Rattle.hs_peerlog.specs.Heads.{LeavesHeader};
 ghost use Rattle.hs_peerlog.specs.Images.{Is, IsOne, LeavesAny, LeavesEach};
 ghost use Rattle.hs_peerlog.specs.Lists.{HasLog, IsKept, IsReady, with_waiting};
 ghost use Rattle.hs_shard.specs.Facts.{pointers_at};
+ghost use Rattle.hs_side.specs.declared.header.Header.{Header};
 ghost use Rattle.hs_side.specs.Headers.{own_header};
 
 use crate::readable::is_readable;
@@ -62,6 +64,11 @@ pub(crate) fn do_own<D: Disk>(
         → (list : Numbered) (waiting : Option Entry)
         → IsKept log.old ((D.stands disk.old).seen log.old.log.side) list waiting
         → IfOk result (ReadsOn (Some log.new) (D.stands disk.new) job.now list waiting) }
+    // And whose header a stop leaves.
+    ensures headed { D.tells → is_own (Some job.now) ≡ true → (header : Header)
+        → IsHeaded header watch.old (Some log.old) (D.stands disk.old)
+        → LeavesHeaded header watch.old watch.new (D.stands disk.old) (D.stands disk.new)
+        log.new result }
     ensures failed { D.tells → (list : Numbered) (waiting : Option Entry)
         → IsKept log.old ((D.stands disk.old).seen log.old.log.side) list waiting
         → HasStored (Some job.now) catalogue.now.blocks list → IfErr result IsOutside }
@@ -109,6 +116,10 @@ pub(crate) fn append_entry<D: Disk>(
         → OnOk result (IsKept log.new ((D.stands disk.new).seen log.new.log.side) list
         (Some entry.now)) }
     ensures next { OnOk result (number ≡ log.old.rank.number + 1) }
+    ensures headed { D.tells → (header : Header)
+        → IsHeaded header watch.old (Some log.old) (D.stands disk.old)
+        → LeavesHeaded header watch.old watch.new (D.stands disk.old) (D.stands disk.new)
+        log.new result }
     ensures any_moment { D.tells → (D.stands disk.old).last ≤ watch.old
         → (list : Numbered) (waiting : Option Entry)
         → HasLog log.old (D.stands disk.old) list waiting
@@ -161,6 +172,10 @@ fn seal_entry<D: Disk>(
         (sealed_list list waiting) None) }
     ensures number { OnOk result
         (option_map (λ rank. rank.number) log.old.waits ≡ Some number) }
+    ensures headed { D.tells → (header : Header)
+        → IsHeaded header watch.old (Some log.old) (D.stands disk.old)
+        → LeavesHeaded header watch.old watch.new (D.stands disk.old) (D.stands disk.new)
+        log.new result }
     ensures any_moment { D.tells → (D.stands disk.old).last ≤ watch.old
         → (list : Numbered) (waiting : Option Entry)
         → HasLog log.old (D.stands disk.old) list waiting
@@ -337,7 +352,15 @@ pub(crate) fn keep_copy<D: Disk>(
         → HasLog log.old (D.stands disk.old) list waiting
         → OnOk result (HasLog log.new (D.stands disk.new)
         (with_waiting list entry.now) None) }
+    ensures reads { D.tells → (list : Numbered) (waiting : Option Entry)
+        → IsKept log.old ((D.stands disk.old).seen log.old.log.side) list waiting
+        → OnOk result (IsKept log.new ((D.stands disk.new).seen log.new.log.side)
+        (with_waiting list entry.now) None) }
     ensures next { OnOk result (number ≡ log.old.rank.number + 1) }
+    ensures headed { D.tells → (header : Header)
+        → IsHeaded header watch.old (Some log.old) (D.stands disk.old)
+        → LeavesHeaded header watch.old watch.new (D.stands disk.old) (D.stands disk.new)
+        log.new result }
     // Each moment leaves the list before, or that with the entry, which has this number then.
     ensures any_moment { D.tells → (D.stands disk.old).last ≤ watch.old
         → (list : Numbered) (waiting : Option Entry)

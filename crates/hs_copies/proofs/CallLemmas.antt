@@ -13,7 +13,7 @@ use Rattle.hs_replica.specs.Group.{Group, IsHome, change_copy, commit_front, com
 use Rattle.hs_copies.specs.CoreCopies.{CoreCopies, core_answer, core_append, core_begin, core_commit, core_have, core_nudge, core_propose, core_seal}
 use Rattle.hs_copies.specs.Invariant.{AreFaithful}
 use Rattle.hs_copies.specs.Lists.{IsAmong, IsFront, Item, end_view}
-use Rattle.hs_copies.specs.Machine.{Copies, CopyComes, CopyEvent, EntryNotice, Good, HaveComes, CanCome, PeerCopy, Propose, SealedNotice, Sealed, TakesEffect, after_event, item, put_at}
+use Rattle.hs_copies.specs.Machine.{Copies, CopyComes, CopyEvent, EntryNotice, Good, HaveComes, CanCome, PeerCopy, Propose, SealedNotice, Sealed, TakesEffect, after_event, after_events, item, put_at}
 use Rattle.hs_copies.specs.Standing.{ArePeers, Continues, IsCopyOf, TellsNoView, HasMessage, StandsFor, stamps_of}
 use Rattle.hs_copies.specs.Stamps.{view_told}
 use Rattle.hs_copies.proofs.HomeLemmas.{le_or_lt, set_other, set_same}
@@ -22,7 +22,8 @@ use Rattle.hs_copies.proofs.LineLemmas.{does_owned, lines_after}
 use Rattle.hs_copies.proofs.ListLemmas.{front_length, front_step}
 use Rattle.hs_copies.proofs.OpenedLemmas.{took_good}
 use Rattle.hs_copies.proofs.PeerLemmas.{put_here, put_other}
-use Rattle.hs_copies.proofs.SendLemmas.{Each, IsOfLog, MayTell, copies_may, each_flat_map, each_map, one_and_tell, tell_all, waiting_of_log, drop_cons}
+use Rattle.hs_copies.proofs.QuietLemmas.{Quietly, SealsSome, becomes_quietly, known_list, known_sealed, no_quiet, quiet_event, same_stays, sealed_list, sealed_number, sealed_other, stays_alike}
+use Rattle.hs_copies.proofs.SendLemmas.{Each, HaveTold, IsOfLog, MayTell, copies_may, each_flat_map, each_map, one_and_tell, tell_all, waiting_of_log, drop_cons}
 use Rattle.hs_copies.proofs.StampLemmas.{log_tells, stamped_last, stamped_prefix, tells_after}
 use Rattle.hs_copies.proofs.StandLemmas.{and_left, and_right, end_view_any, good_copy, good_home, good_peer, last_stamp, length_is, none_waits, not_good_following, one_changes, stands_lead}
 use Rattle.hs_copies.proofs.ViewKeeps.{after_right}
@@ -120,12 +121,13 @@ module _ {line : Entry → Option ℕ} (c : CoreCopies) (s : Copies Entry) (st :
       each_map (MayTell s.view (s.log ++ item s.view entry ∷ []) peers) (λ x. message.Copy c.group.shard x.0 c.group.view (last_number c.group + 1) entry) (others c.group)
       (λ x. (omega arith, st.view, (item s.view entry, refl, rw n (get_end s.log (item s.view entry)))))
 
-  pub proposed : Continues line (core_propose entry c) s
+  pub proposed : Quietly line (core_propose entry c) s
   proposed =
       let d = stands_lead c s st in
       rw (propose_is entry c.group d.peer d.is)
+      (becomes_quietly (record c { group = record (take_entry d.peer entry c.group) { waiting = c.group.waiting ++ entry ∷ [] }; sent = proposal entry c.group ++ c.sent }) s (Propose d.peer entry) tt tt
       (one_and_tell (record c { group = record (take_entry d.peer entry c.group) { waiting = c.group.waiting ++ entry ∷ [] } }) s (Propose d.peer entry) proposing
-      proposed_stands (proposal entry c.group) (proposal_may (put_at d.peer (record (s.peers d.peer) { list = s.log ++ item s.view entry ∷ [] }) s.peers)))
+      proposed_stands (proposal entry c.group) (proposal_may (put_at d.peer (record (s.peers d.peer) { list = s.log ++ item s.view entry ∷ [] }) s.peers))))
 
 -- nothing happens
 pub no_event : {line : Entry → Option ℕ} (c : CoreCopies) (s : Copies Entry) → StandsFor line c s → Continues line c s
@@ -191,15 +193,15 @@ module _ {line : Entry → Option ℕ} (c : CoreCopies) (s : Copies Entry) (st :
         told = tells_after view_after st.begun st.begun_at s st.faithful st.told (CopyComes p (length (s.peers p).list) x) coming tt;
       }
 
-  pub taken_continues : Continues line (record c { group = take_entry p x.what c.group }) s
-  taken_continues = one_event (record c { group = take_entry p x.what c.group }) s (CopyComes p (length (s.peers p).list) x) coming taken_stands
+  pub taken_continues : Quietly line (record c { group = take_entry p x.what c.group }) s
+  taken_continues = quiet_event (record c { group = take_entry p x.what c.group }) s (CopyComes p (length (s.peers p).list) x) tt tt coming taken_stands
 
 append_if : (peer view number : ℕ) (entry : Entry) (group : Group) (b : Bool) → takes peer view number group ≡ b
     → on_append peer view number entry group ≡ (if b then take_entry peer entry group else group)
 append_if peer view number entry group b e = ap (λ t. if t then take_entry peer entry group else group) e
 
 pub appended : {line : Entry → Option ℕ} (c : CoreCopies) (s : Copies Entry) → StandsFor line c s → (shard peer view number : ℕ) (entry : Entry) → IsHome c.group peer
-    → IsAmong (message.Copy shard peer view number entry) c.sent → Continues line (core_append peer view number entry c) s
+    → IsAmong (message.Copy shard peer view number entry) c.sent → Quietly line (core_append peer view number entry c) s
 appended {line = line} c s st shard peer view number entry own k = go (takes peer view number c.group) refl
   where
     told : HasMessage s.sent (message.Copy shard peer view number entry)
@@ -210,11 +212,11 @@ appended {line = line} c s st shard peer view number entry own k = go (takes pee
     place_it x v n k = rw (← v, ← n) k
 
     take_it : (s.peers peer).stage ≡ Good → (x : Item Entry) → x.what ≡ entry → IsAmong (EntryNotice peer s.view (length (s.peers peer).list) x) s.sent
-        → Continues line (record c { group = take_entry peer entry c.group }) s
+        → Quietly line (record c { group = take_entry peer entry c.group }) s
     take_it good x w k = rw (← w) (taken_continues c s st peer own good x k)
 
-    go : (b : Bool) → takes peer view number c.group ≡ b → Continues line (core_append peer view number entry c) s
-    go false e = rw (append_if peer view number entry c.group false e) (no_event c s st)
+    go : (b : Bool) → takes peer view number c.group ≡ b → Quietly line (core_append peer view number entry c) s
+    go false e = rw (append_if peer view number entry c.group false e) (no_quiet c s st)
     go true e =
         let both = and_left ((copy_of c.group peer).good && view == c.group.view) (number == length_of c.group peer + 1) e in
         let n : number ≡ length_of c.group peer + 1 = eqb-true number (length_of c.group peer + 1) (and_right ((copy_of c.group peer).good && view == c.group.view) (number == length_of c.group peer + 1) e) in
@@ -309,17 +311,27 @@ module _ {line : Entry → Option ℕ} (c : CoreCopies) (s : Copies Entry) (st :
         told = tells_after view_after st.begun st.begun_at (after_event (Sealed p number) s) f t (HaveComes p (max (s.peers p).known number)) known_too tt;
       }
 
-  pub seals_core : Continues line (core_seal p number c) s
+  pub seals_core : SealsSome line (core_seal p number c) s p number
   seals_core = go (is_peer p (lead c.group)) refl
     where
       new : PeerCopy Entry
       new = record (s.peers p) { sealed = number }
 
-      go : (b : Bool) → is_peer p (lead c.group) ≡ b → Continues line (core_seal p number c) s
+      told : HaveTold line (record c { group = change_copy p (λ r. record r { sealed = number; known = r.known }) c.group }) (after_event (Sealed p number) s) (have p number c.group)
+      told = tell_all (record c { group = change_copy p (λ r. record r { sealed = number; known = r.known }) c.group }) (after_event (Sealed p number) s) sealed_stands (have p number c.group)
+          (have_may c.group s.view s.log (put_at p new s.peers) p number st.view (rw (put_here p new s.peers) good) (rw (put_here p new s.peers) (omega arith)))
+
+      go : (b : Bool) → is_peer p (lead c.group) ≡ b → SealsSome line (core_seal p number c) s p number
       go false e =
           rw (seal_if p number c.group false e)
-          (one_and_tell (record c { group = change_copy p (λ r. record r { sealed = number; known = r.known }) c.group }) s (Sealed p number) sealing sealed_stands (have p number c.group)
-          (have_may c.group s.view s.log (put_at p new s.peers) p number st.view (rw (put_here p new s.peers) good) (rw (put_here p new s.peers) (omega arith))))
+          (record {
+            events = Sealed p number ∷ told.events;
+            allowed = (sealing, told.allowed);
+            stands = told.stands;
+            lists = λ q. ap (λ (ps : ℕ → PeerCopy Entry). (ps q).list) told.peers ∙ sealed_list p number s q;
+            here = ap (λ (ps : ℕ → PeerCopy Entry). (ps p).sealed) told.peers ∙ sealed_number p number s;
+            others = λ q n. ap (λ (ps : ℕ → PeerCopy Entry). (ps q).sealed) told.peers ∙ sealed_other p number s q n;
+          })
       go true e =
           let none : have p number c.group ≡ [] = ap (λ t. if t then [] else map (λ l. message.Have c.group.shard p l c.group.view number) (option_to_list (lead c.group))) e in
           rw (seal_if p number c.group true e, none)
@@ -327,6 +339,9 @@ module _ {line : Entry → Option ℕ} (c : CoreCopies) (s : Copies Entry) (st :
             events = Sealed p number ∷ HaveComes p (max (s.peers p).known number) ∷ [];
             allowed = (sealing, (known_too, tt));
             stands = known_stands;
+            lists = λ q. known_list p (max (s.peers p).known number) (after_event (Sealed p number) s) q ∙ sealed_list p number s q;
+            here = known_sealed p (max (s.peers p).known number) (after_event (Sealed p number) s) p ∙ sealed_number p number s;
+            others = λ q n. known_sealed p (max (s.peers p).known number) (after_event (Sealed p number) s) q ∙ sealed_other p number s q n;
           })
 
 -- ---- a Have comes
@@ -371,18 +386,18 @@ module _ {line : Entry → Option ℕ} (c : CoreCopies) (s : Copies Entry) (st :
         told = tells_after view_after st.begun st.begun_at s st.faithful st.told (HaveComes p (max (s.peers p).known sealed)) hearing tt;
       }
 
-  pub heard_continues : Continues line (record c { group = change_copy p (λ r. record r { known = max r.known sealed }) c.group }) s
-  heard_continues = one_event (record c { group = change_copy p (λ r. record r { known = max r.known sealed }) c.group }) s (HaveComes p (max (s.peers p).known sealed)) hearing heard_stands
+  pub heard_continues : Quietly line (record c { group = change_copy p (λ r. record r { known = max r.known sealed }) c.group }) s
+  heard_continues = quiet_event (record c { group = change_copy p (λ r. record r { known = max r.known sealed }) c.group }) s (HaveComes p (max (s.peers p).known sealed)) tt tt hearing heard_stands
 
 pub heard : {line : Entry → Option ℕ} (c : CoreCopies) (s : Copies Entry) → StandsFor line c s → (shard from to view sealed : ℕ) → IsHome c.group from
-    → IsAmong (message.Have shard from to view sealed) c.sent → Continues line (core_have from view sealed c) s
+    → IsAmong (message.Have shard from to view sealed) c.sent → Quietly line (core_have from view sealed c) s
 heard {line = line} c s st shard from to view sealed own k = go (hears from view c.group) refl
   where
     told : IsAmong (SealedNotice from view sealed) s.sent
     told = st.sent (message.Have shard from to view sealed) k
 
-    go : (b : Bool) → hears from view c.group ≡ b → Continues line (core_have from view sealed c) s
-    go false e = rw (have_if from view sealed c.group false e) (no_event c s st)
+    go : (b : Bool) → hears from view c.group ≡ b → Quietly line (core_have from view sealed c) s
+    go false e = rw (have_if from view sealed c.group false e) (no_quiet c s st)
     go true e =
         let v : view ≡ s.view = eqb-true view c.group.view (and_left (view == c.group.view) (copy_of c.group from).good e) ∙ st.view in
         let good = good_peer c s st from own (and_right (view == c.group.view) (copy_of c.group from).good e) in
@@ -479,8 +494,8 @@ module _ {line : Entry → Option ℕ} (c : CoreCopies) (s : Copies Entry) (st :
         told = tells_after view_after st.begun st.begun_at s st.faithful st.told (TakesEffect x) taking tt;
       }
 
-  pub commits : Continues line (record c { group = record c.group { front = y.0; waiting = drop 1 c.group.waiting } }) s
-  commits = one_event (record c { group = record c.group { front = y.0; waiting = drop 1 c.group.waiting } }) s (TakesEffect x) taking committed_stands
+  pub commits : Quietly line (record c { group = record c.group { front = y.0; waiting = drop 1 c.group.waiting } }) s
+  commits = quiet_event (record c { group = record c.group { front = y.0; waiting = drop 1 c.group.waiting } }) s (TakesEffect x) tt tt taking committed_stands
 
   -- and its line is answered
   module _ (k : ℕ) (of_line : line y.1 ≡ Some k) where
@@ -516,11 +531,11 @@ module _ {line : Entry → Option ℕ} (c : CoreCopies) (s : Copies Entry) (st :
     commits_and_answers =
         one_event (record c { group = record c.group { front = y.0; waiting = drop 1 c.group.waiting }; waits = set_waits k false c.waits }) s (TakesEffect x) taking answered_stands
 
-pub took_effect : {line : Entry → Option ℕ} (c : CoreCopies) (s : Copies Entry) → StandsFor line c s → Continues line (core_commit c) s
+pub took_effect : {line : Entry → Option ℕ} (c : CoreCopies) (s : Copies Entry) → StandsFor line c s → Quietly line (core_commit c) s
 took_effect {line = line} c s st = go (committed c.group) refl
   where
-    go : (o : Option (ℕ × Entry)) → committed c.group ≡ o → Continues line (core_commit c) s
-    go None e = rw (commit_if c.group None e) (no_event c s st)
+    go : (o : Option (ℕ × Entry)) → committed c.group ≡ o → Quietly line (core_commit c) s
+    go None e = rw (commit_if c.group None e) (no_quiet c s st)
     go (Some y) e =
         let k = first_of (drop (length s.took) s.log) y.1 (rw st.waiting at (committed_tells c.group y e).2) in
         rw (commit_if c.group (Some y) e) (commits c s st y e k.0 k.1 k.2)
@@ -595,10 +610,15 @@ answers_line {line = line} c s st k l e v none =
 all_waiting : {line : Entry → Option ℕ} (c : CoreCopies) (s : Copies Entry) → StandsFor line c s → Each (IsOfLog s.log) (enumerate_from (c.group.front + 1) c.group.waiting)
 all_waiting {line = line} c s st = waiting_of_log s.log c.group.front c.group.waiting (rw st.front st.waiting)
 
-pub nudged : {line : Entry → Option ℕ} (c : CoreCopies) (s : Copies Entry) → StandsFor line c s → (p : ℕ) → IsHome c.group p → (copy_of c.group p).good ≡ true → Continues line (core_nudge p c) s
+pub nudged : {line : Entry → Option ℕ} (c : CoreCopies) (s : Copies Entry) → StandsFor line c s → (p : ℕ) → IsHome c.group p → (copy_of c.group p).good ≡ true → Quietly line (core_nudge p c) s
 nudged {line = line} c s st p own k =
     let t = tell_all c s st (resend p c.group) (may (is_peer p (lead c.group)) refl) in
-    record { events = t.events; allowed = t.allowed; stands = t.stands }
+    record {
+      events = t.events;
+      allowed = t.allowed;
+      stands = t.stands;
+      stays = stays_alike s s (after_events s t.events) t.peers (same_stays s);
+    }
   where
     may : (b : Bool) → is_peer p (lead c.group) ≡ b → Each (MayTell s.view s.log s.peers) (resend p c.group)
     may true e =

@@ -13,9 +13,10 @@ use Rattle.hs_replica.specs.Group.{Group, IsHome, copy_of, first_peer, is_peer, 
 use Rattle.hs_copies.specs.CoreCopies.{CoreCopies, begin_with, core_fail, core_join, core_view}
 use Rattle.hs_copies.specs.Lists.{IsFront}
 use Rattle.hs_copies.specs.Machine.{Copies, Down, Fail, Following, Good, CanCome, Join, PeerCopy, Stage, begin_again, put_at, stage_again}
-use Rattle.hs_copies.specs.Standing.{Continues, IsAlike, StandsFor, is_good_stage, stage_of}
+use Rattle.hs_copies.specs.Standing.{IsAlike, StandsFor, is_good_stage, stage_of}
 use Rattle.hs_copies.proofs.HomeLemmas.{Leads, lead_found}
 use Rattle.hs_copies.proofs.ListLemmas.{front_left, front_length}
+use Rattle.hs_copies.proofs.QuietLemmas.{Falling, Quietly, becomes_falling, becomes_quietly}
 use Rattle.hs_copies.proofs.NewViewLemmas.{good_status, new_view, before, led_anew, told_good, told_length, told_long}
 use Rattle.hs_copies.proofs.OpenedLemmas.{took_good}
 use Rattle.hs_copies.proofs.PeerLemmas.{put_cases}
@@ -215,12 +216,14 @@ module _ {line : Entry → Option ℕ} (c : CoreCopies) (s : Copies Entry) (st :
       left_has : length s.took ≤ length (begin_again (is_peer p (lead c.group)) (staged p Down s.peers l)).list
       left_has = rw (left_list l) (front_length s.took (s.peers l).list (took_good s st.faithful l d.good))
 
-      failed_with : Continues line (record c { group = on_view (become p is.Down c.members) c.group; members = become p is.Down c.members; rejoins = dues; sent = view_messages (become p is.Down c.members) c.group ++ c.sent }) s
+      failed_with : Falling line (record c { group = on_view (become p is.Down c.members) c.group; members = become p is.Down c.members; rejoins = dues; sent = view_messages (become p is.Down c.members) c.group ++ c.sent }) s
       failed_with =
-          new_view c s st (become p is.Down c.members) dues (λ q. begin_again (is_peer p (lead c.group)) (staged p Down s.peers q)) l
+          becomes_falling (record c { group = on_view (become p is.Down c.members) c.group; members = become p is.Down c.members; rejoins = dues; sent = view_messages (become p is.Down c.members) c.group ++ c.sent }) s
+          (Fail p l (is_peer p (lead c.group)) (View (view_of c.group.shard (become p is.Down c.members)))) tt
+          (new_view c s st (become p is.Down c.members) dues (λ q. begin_again (is_peer p (lead c.group)) (staged p Down s.peers q)) l
           (Fail p l (is_peer p (lead c.group)) (View (view_of c.group.shard (become p is.Down c.members))))
           failing refl (λ v. rises) (st.views (view_of c.group.shard (become p is.Down c.members))) st.shape (become_members p is.Down c.members st.members) rises left_list left_sealed
-          (stages (is_peer p (lead c.group)) dues all none) left_counted left_still left_elsewhere d.chosen d.leads.home left_good left_within left_has
+          (stages (is_peer p (lead c.group)) dues all none) left_counted left_still left_elsewhere d.chosen d.leads.home left_good left_within left_has)
 
       led_after : (k : ℕ) × (lead (on_view (become p is.Down c.members) c.group) ≡ Some k)
       led_after =
@@ -229,7 +232,7 @@ module _ {line : Entry → Option ℕ} (c : CoreCopies) (s : Copies Entry) (st :
           (stages (is_peer p (lead c.group)) dues all none) left_counted left_still left_elsewhere d.chosen d.leads.home left_good left_within left_has
 
 pub failed : {line : Entry → Option ℕ} (c : CoreCopies) (s : Copies Entry) → StandsFor line c s → (p : ℕ) → IsHome c.group p → status p c.members ≡ is.Good
-    → has_good c.group.shard (become p is.Down c.members) ≡ true → Continues line (core_fail p c) s
+    → has_good c.group.shard (become p is.Down c.members) ≡ true → Falling line (core_fail p c) s
 failed {line = line} c s st p own was left = go (is_peer p (lead c.group)) refl
   where
     d : (l : ℕ) × HasNewLead c s st p own was left l
@@ -249,7 +252,7 @@ failed {line = line} c s st p own was left = go (is_peer p (lead c.group)) refl
     fail_if false e =
         ap (λ t. if t then record (core_view (become p is.Down c.members) c) { rejoins = λ q. begin_with (lead (on_view (become p is.Down c.members) c.group)) (c.rejoins q) } else core_view (become p is.Down c.members) c) e
 
-    go : (b : Bool) → is_peer p (lead c.group) ≡ b → Continues line (core_fail p c) s
+    go : (b : Bool) → is_peer p (lead c.group) ≡ b → Falling line (core_fail p c) s
     go true e =
         let blank : ℕ → Rejoin = λ q. new_rejoin p in
         let k = led_after c s st p own was left d.0 d.1 blank (λ q t. refl) (λ q f. let wrong : true ≡ false = sym e ∙ f in absurd (cc wrong)) in
@@ -354,15 +357,16 @@ module _ {line : Entry → Option ℕ} (c : CoreCopies) (s : Copies Entry) (st :
     lead_has : length s.took ≤ length (staged p Good s.peers l).list
     lead_has = omega (arith, ap (λ k. length k) (staged_list p Good s.peers l), lead_whole, front_length s.took s.log st.faithful.took)
 
-    joined_with : Continues line (core_join p c) s
+    joined_with : Quietly line (core_join p c) s
     joined_with =
-        new_view c s st (become p is.Good c.members) c.rejoins (staged p Good s.peers) l
+        becomes_quietly (core_join p c) s (Join p l (View (view_of c.group.shard (become p is.Good c.members)))) tt tt
+        (new_view c s st (become p is.Good c.members) c.rejoins (staged p Good s.peers) l
         (Join p l (View (view_of c.group.shard (become p is.Good c.members))))
         joining refl (λ v. join_rises) (st.views (view_of c.group.shard (become p is.Good c.members))) st.shape (become_members p is.Good c.members st.members) join_rises (staged_list p Good s.peers) (staged_sealed p Good s.peers)
-        join_stages join_counted join_still join_elsewhere d.chosen d.leads.home lead_good lead_within lead_has
+        join_stages join_counted join_still join_elsewhere d.chosen d.leads.home lead_good lead_within lead_has)
 
 pub joined : {line : Entry → Option ℕ} (c : CoreCopies) (s : Copies Entry) → StandsFor line c s → (p l : ℕ) → IsHome c.group p → status p c.members ≡ is.Joining
-    → lead c.group ≡ Some l → is_level (length_of c.group l) (c.rejoins p) ≡ true → Continues line (core_join p c) s
+    → lead c.group ≡ Some l → is_level (length_of c.group l) (c.rejoins p) ≡ true → Quietly line (core_join p c) s
 joined {line = line} c s st p l own joins e level =
     let k = stands_lead c s st in
     let same : k.peer ≡ l = let i : Some k.peer ≡ Some l = sym k.is ∙ e in cc i in

@@ -12,12 +12,12 @@ use Rattle.hs_replica.specs.Group.{Group, IsHome, change_copy, copy_of, lead, le
 use Rattle.hs_copies.specs.CoreCopies.{CoreCopies, begin_with, core_copied, core_empty, core_give_up, core_start}
 use Rattle.hs_copies.specs.Lists.{IsFront, Item}
 use Rattle.hs_copies.specs.Machine.{Clearing, Cleared, Copied, Copies, Copying, Down, Following, GiveUp, Good, CanCome, PeerCopy, Stage, Start, after_event, put_at}
-use Rattle.hs_copies.specs.Standing.{Continues, IsCopyingStep, StandsFor, is_good_stage, stage_of, stamps_of}
-use Rattle.hs_copies.proofs.CallLemmas.{one_event}
+use Rattle.hs_copies.specs.Standing.{IsCopyingStep, StandsFor, is_good_stage, stage_of, stamps_of}
 use Rattle.hs_copies.proofs.HomeLemmas.{set_other, set_same}
 use Rattle.hs_copies.proofs.LineLemmas.{lines_after}
 use Rattle.hs_copies.proofs.ListLemmas.{front_left, front_step}
 use Rattle.hs_copies.proofs.PeerLemmas.{put_here, put_other}
+use Rattle.hs_copies.proofs.QuietLemmas.{GetsList, Quietly, quiet_event}
 use Rattle.hs_copies.proofs.StampLemmas.{tells_after}
 use Rattle.hs_copies.proofs.StandLemmas.{length_is, not_good_following, one_changes, stands_lead}
 use Rattle.hs_copies.proofs.StatusLemmas.{become_here, become_members, become_other, home_peer, view_stays}
@@ -81,8 +81,8 @@ module _ {line : Entry → Option ℕ} (c : CoreCopies) (s : Copies Entry) (st :
           told = tells_after view_after st.begun st.begun_at s st.faithful st.told (GiveUp p) giving_up tt;
         }
 
-    pub gave_up : Continues line (core_give_up p c) s
-    gave_up = one_event (core_give_up p c) s (GiveUp p) giving_up gave_up_stands
+    pub gave_up : Quietly line (core_give_up p c) s
+    gave_up = quiet_event (core_give_up p c) s (GiveUp p) tt tt giving_up gave_up_stands
 
   -- ---- a peer that is down begins to join
 
@@ -128,8 +128,8 @@ module _ {line : Entry → Option ℕ} (c : CoreCopies) (s : Copies Entry) (st :
           told = tells_after view_after st.begun st.begun_at s st.faithful st.told (Start p) starting tt;
         }
 
-    pub started : Continues line (core_start p c) s
-    started = one_event (core_start p c) s (Start p) starting started_stands
+    pub started : Quietly line (core_start p c) s
+    started = quiet_event (core_start p c) s (Start p) tt tt starting started_stands
 
   -- ---- its disk was emptied
 
@@ -171,8 +171,17 @@ module _ {line : Entry → Option ℕ} (c : CoreCopies) (s : Copies Entry) (st :
           told = tells_after view_after st.begun st.begun_at s st.faithful st.told (Cleared p 0) emptying tt;
         }
 
-    pub emptied_core : Continues line (core_empty p c) s
-    emptied_core = one_event (core_empty p c) s (Cleared p 0) emptying emptied_stands
+    pub emptied_core : GetsList line (core_empty p c) s p []
+    emptied_core =
+        let new : PeerCopy Entry = record (s.peers p) { stage = Following; list = []; adding = []; sealed = 0 } in
+        record {
+          events = Cleared p 0 ∷ [];
+          allowed = (emptying, tt);
+          stands = emptied_stands;
+          here = ap (λ (k : PeerCopy Entry). k.list) (put_here p new s.peers);
+          sealed = ap (λ (k : PeerCopy Entry). k.sealed) (put_here p new s.peers);
+          others = λ q n. put_other p new s.peers q n;
+        }
 
 -- ---- an entry was copied to it
 
@@ -281,11 +290,22 @@ module _ {line : Entry → Option ℕ} (c : CoreCopies) (s : Copies Entry) (st :
         told = tells_after view_after st.begun st.begun_at (after_event (Copying p (x ∷ [])) s) mid mid_told (Copied p) copy_done tt;
       }
 
-  pub copied_one : Continues line (core_copied p number c) s
+  pub copied_one : GetsList line (core_copied p number c) s p ((s.peers p).list ++ x ∷ [])
+  unfolding newer whole
   copied_one =
       let d = stands_lead c s st in
       rw (copied_is p number d.peer c.group d.is, stamp_is d.peer d.leads.home d.whole)
-      (record { events = Copying p (x ∷ []) ∷ Copied p ∷ []; allowed = (copying, (copy_done, tt)); stands = copied_stands })
+      (record {
+        events = Copying p (x ∷ []) ∷ Copied p ∷ [];
+        allowed = (copying, (copy_done, tt));
+        stands = copied_stands;
+        here = ap (λ (k : PeerCopy Entry). k.list) becomes;
+        sealed = ap (λ (k : PeerCopy Entry). k.sealed) becomes;
+        others = λ q n. put_other p newer (put_at p (record (s.peers p) { adding = x ∷ [] }) s.peers) q n ∙ put_other p (record (s.peers p) { adding = x ∷ [] }) s.peers q n;
+      })
+    where
+      becomes : put_at p newer (put_at p (record (s.peers p) { adding = x ∷ [] }) s.peers) p ≡ whole
+      becomes = put_here p newer (put_at p (record (s.peers p) { adding = x ∷ [] }) s.peers) ∙ is_whole
 
   -- ---- the step is broken off
 
@@ -349,14 +369,15 @@ module _ {line : Entry → Option ℕ} (c : CoreCopies) (s : Copies Entry) (st :
       }
 
 pub copied_core : {line : Entry → Option ℕ} (c : CoreCopies) (s : Copies Entry) → StandsFor line c s → (p number l : ℕ) → IsHome c.group p → status p c.members ≡ is.Joining
-    → (c.rejoins p).empty ≡ false → number ≡ (c.rejoins p).len + 1 → lead c.group ≡ Some l → number ≤ length_of c.group l → Continues line (core_copied p number c) s
+    → (c.rejoins p).empty ≡ false → number ≡ (c.rejoins p).len + 1 → lead c.group ≡ Some l → number ≤ length_of c.group l
+    → (x : Item Entry) × (slice_get s.log (length (s.peers p).list) ≡ Some x) × GetsList line (core_copied p number c) s p ((s.peers p).list ++ x ∷ [])
 copied_core {line = line} c s st p number l own joins done next e low =
     let d = stands_lead c s st in
     let same : d.peer ≡ l = let k : Some d.peer ≡ Some l = sym d.is ∙ e in cc k in
     let f : (s.peers p).stage ≡ Following = st.peers.stage p own ∙ ap (λ k. stage_of k (c.rejoins p).empty) joins ∙ ap (λ b. stage_of is.Joining b) done in
     let n : length_of c.group l ≡ length s.log = rw (← same) (length_is c s st d.peer d.leads.home ∙ ap (λ k. length k) d.whole) in
     let k = item_at s.log (length (s.peers p).list) (omega (arith, next, low, n, st.peers.counted p own f)) in
-    copied_one c s st p number own joins done next k.0 k.1
+    (k.0, k.1, copied_one c s st p number own joins done next k.0 k.1)
 
 pub step_under_way : {line : Entry → Option ℕ} (c : CoreCopies) (s : Copies Entry) → StandsFor line c s → (p number l : ℕ) → IsHome c.group p → status p c.members ≡ is.Joining
     → (c.rejoins p).empty ≡ false → number ≡ (c.rejoins p).len + 1 → lead c.group ≡ Some l → number ≤ length_of c.group l → IsCopyingStep line c s p

@@ -12,6 +12,7 @@ pub mod OpeningLemmas
 pub mod RunLemmas
 pub mod HomeLemmas
 pub mod StandLemmas
+pub mod QuietLemmas
 pub mod SendLemmas
 pub mod CallLemmas
 pub mod StatusLemmas

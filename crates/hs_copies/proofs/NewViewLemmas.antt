@@ -20,13 +20,14 @@ use Rattle.hs_copies.specs.Invariant.{AreFaithful}
 use Rattle.hs_copies.specs.Lists.{IsAmong, IsFront, Item}
 use Rattle.hs_copies.specs.Machine.{Copies, CopyEvent, Down, Following, Good, CanCome, PeerCopy, after_event, item, put_at, told_copy, with_new_view}
 use Rattle.hs_copies.specs.Stamps.{AreStampsTold, TellsView}
-use Rattle.hs_copies.specs.Standing.{ArePeers, Continues, IsCopyOf, HasMessage, StandsFor, is_good_stage, stage_of, stamps_of}
+use Rattle.hs_copies.specs.Standing.{ArePeers, IsCopyOf, HasMessage, StandsFor, is_good_stage, stage_of, stamps_of}
 use Rattle.hs_copies.proofs.CallLemmas.{get_end, propose_is}
 use Rattle.hs_copies.proofs.HomeLemmas.{change_each, lead_found, set_same}
 use Rattle.hs_copies.specs.Lines.{AreLinesOpen, ProposesRightly}
 use Rattle.hs_copies.proofs.LineLemmas.{lines_after}
 use Rattle.hs_copies.proofs.ListLemmas.{get_more}
 use Rattle.hs_copies.proofs.PeerLemmas.{put_cases}
+use Rattle.hs_copies.proofs.QuietLemmas.{Becomes}
 use Rattle.hs_copies.proofs.SendLemmas.{Each, IsOfLog, MayTell, copies_may, each_append, each_flat_map, each_map, one_and_tell, waiting_of_log}
 use Rattle.hs_copies.proofs.StampLemmas.{tells_after}
 use Rattle.hs_copies.proofs.StandLemmas.{not_good_following}
@@ -265,7 +266,7 @@ pub new_view : {line : Entry → Option ℕ} (c : CoreCopies) (s : Copies Entry)
     → (peers l).stage ≡ Good
     → IsFront (peers l).list s.log
     → length s.took ≤ length (peers l).list
-    → Continues line (record c { group = on_view m c.group; members = m; rejoins = dues; sent = view_messages m c.group ++ c.sent }) s
+    → Becomes line (record c { group = on_view m c.group; members = m; rejoins = dues; sent = view_messages m c.group ++ c.sent }) s e
 new_view {line = line} c s st m dues peers l e allowed becomes tells right shape valid rises lists seals stages counted still elsewhere leads own good within has =
     let opened : AreLinesOpen line c.waits (with_new_view l (View (view_of c.group.shard m)) peers s) =
     rw (← becomes) (lines_after s c.waits st.faithful st.lines e allowed right) in

@@ -9,8 +9,9 @@ use Rattle.hs_replica.specs.Group.{Group, copies_above, entries_above, view_afte
 use Rattle.hs_copies.specs.CoreCopies.{CoreCopies}
 use Rattle.hs_copies.specs.Lists.{IsAmong, Item}
 use Rattle.hs_copies.specs.Machine.{CanComeAll, Copies, CopyEvent, EntryNotice, Good, CanCome, Notice, PeerCopy, SealedNotice, Send, after_event, after_events}
-use Rattle.hs_copies.specs.Standing.{Continues, HasMessage, StandsFor}
+use Rattle.hs_copies.specs.Standing.{HasMessage, StandsFor}
 use Rattle.hs_copies.proofs.LineLemmas.{lines_after}
+use Rattle.hs_copies.proofs.QuietLemmas.{Becomes}
 use Rattle.hs_copies.proofs.StampLemmas.{tells_after}
 use Rattle.hs_copies.proofs.ViewKeeps.{after_right}
 
@@ -170,10 +171,10 @@ tell_all {line = line} c s st (m ∷ ms) h =
 
 -- one event, and then these messages
 pub one_and_tell : {line : Entry → Option ℕ} (c : CoreCopies) (s : Copies Entry) (e : CopyEvent Entry) → CanCome s e → StandsFor line c (after_event e s) → (ms : List Message)
-    → Each (MayTell (after_event e s).view (after_event e s).log (after_event e s).peers) ms → Continues line (record c { sent = ms ++ c.sent }) s
+    → Each (MayTell (after_event e s).view (after_event e s).log (after_event e s).peers) ms → Becomes line (record c { sent = ms ++ c.sent }) s e
 one_and_tell c s e a st ms h =
     let k = tell_all c (after_event e s) st ms h in
-    record { events = e ∷ k.events; allowed = (a, k.allowed); stands = k.stands }
+    record { events = e ∷ k.events; allowed = (a, k.allowed); stands = k.stands; first = a; peers = k.peers }
 
 -- ---- the entries that wait
 

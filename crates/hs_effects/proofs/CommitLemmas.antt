@@ -8,7 +8,8 @@ use Rattle.hs_core_words.specs.State.{Core}
 use Rattle.hs_effects.specs.Lawful.{IsLawful, MayComeAll, MayComeNext, committed_count, folds_after, folds_next}
 use Rattle.hs_effects.specs.Logged.{IsOrderly}
 use Rattle.hs_effects.specs.Taking.{folds_behind}
-use Rattle.hs_effects.proofs.EffectLemmas.{committed_named, next_orderly}
+use Rattle.hs_effects.proofs.EffectLemmas.{committed_named}
+use Rattle.hs_effects.proofs.EventLemmas.{next_orderly}
 use Rattle.hs_effects.proofs.LawfulLemmas.{entry_lawful}
 use Rattle.hs_entry.specs.declared.entry.Entry.{Entry}
 use Rattle.hs_fold.specs.Runs.Facts.{Catalogue as Folded}

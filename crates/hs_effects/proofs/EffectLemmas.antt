@@ -1,19 +1,20 @@
 -- Entries that take effect keep the order, and each has the name of its block.
-use Rattle.std.proofs.Common.{◌≡◌, ◌∙◌, sym, ap, subst, ◌⊎◌, inl, inr, ℕ, zero, suc, ◌+◌, ◌-◌, ◌<◌, ◌≤◌, ◌==◌, Bool, true, false, cond, List, [], ◌∷◌, length, count_by, drop, Option, Some, None, refl, is_some, arith, slice_get}
+use Rattle.std.proofs.Common.{◌≡◌, ◌∙◌, sym, ap, subst, ◌⊎◌, inl, inr, ℕ, zero, suc, ◌+◌, ◌<◌, ◌≤◌, ◌==◌, Bool, true, false, cond, List, [], ◌∷◌, length, count_by, drop, Option, Some, None, refl, is_some, arith, slice_get}
 use Rattle.std.proofs.lemmas.Bool.Decides.{nat_tests}
 use Rattle.std.proofs.lemmas.Grind.{common_steps}
 use Rattle.std.specs.Option.{option_and_then}
 use Rattle.std.specs.Prelude.{slice_index_or, slice_set}
-use Rattle.hs_awaiting.specs.declared.wait.Wait.{Wait}
+pub use Rattle.hs_anatomy.proofs.ReadyLemmas.{view_idle, wakes_idle}
+use Rattle.hs_anatomy.specs.Effect.{told_at_once, tells_at_once}
 use Rattle.hs_awaiting.specs.declared.wait.Wait.TheVariants as wait
 use Rattle.hs_awaiting.specs.declared.waiting.Waiting.{Waiting}
 use Rattle.hs_model.specs.Op.{written_address}
-use Rattle.hs_awaiting.specs.Words.{change_if, change_with, times}
-use Rattle.hs_core_words.specs.Changing.{change_group, note, set_viewed}
-use Rattle.hs_core_words.specs.Effects.{after_entry, commit, commit_next, is_for_view, note_enter, note_sweep, reach_view, take_effect, tell_enter, tell_operation, wakes}
+use Rattle.hs_awaiting.specs.Words.{change_if, change_with}
+use Rattle.hs_core_words.specs.Changing.{change_group, note}
+use Rattle.hs_core_words.specs.Effects.{note_enter, note_sweep, tell_enter, tell_operation}
 use Rattle.hs_core_words.specs.Entering.{is_enter_due, propose_due}
 use Rattle.hs_core_words.specs.Looking.{catalogue_of, front_of, group_of, operation_of, shape_of}
-use Rattle.hs_core_words.specs.Operating.{propose_entry, resume_where}
+use Rattle.hs_core_words.specs.Operating.{propose_entry}
 use Rattle.hs_core_words.specs.Pending.{named, stored}
 use Rattle.hs_core_words.specs.State.{Core}
 use Rattle.hs_desk.specs.declared.what.What.{What}
@@ -21,7 +22,7 @@ use Rattle.hs_desk.specs.declared.what.What.TheVariants as what
 use Rattle.hs_effects.specs.Logged.{HasAsked, IsEntryOf, IsOrderly, asked_by}
 use Rattle.hs_effects.specs.Room.{Fit, HasRoom}
 use Rattle.hs_effects.specs.Taking.{IsNamed, done_by, taken}
-use Rattle.hs_effects.proofs.GoingLemmas.{IsIdle, PassesIdle, going_orderly, resumed_orderly}
+use Rattle.hs_effects.proofs.GoingLemmas.{going_orderly}
 use Rattle.hs_effects.proofs.GroupLemmas.{IsFirst, at_front, committed_first, group_changed, set_at}
 use Rattle.hs_effects.proofs.GrowLemmas.{Grows, applied_grows}
 use Rattle.hs_effects.proofs.LookLemmas.{one_or_other}
@@ -40,7 +41,7 @@ use Rattle.hs_model.specs.declared.op.Op.TheVariants as op
 use Rattle.hs_model.specs.declared.reply.Reply.TheVariants as reply
 use Rattle.hs_ops.specs.Operations.{effect_step}
 use Rattle.hs_ops.specs.Speaking.{wanted_address}
-use Rattle.hs_replica.specs.Group.{Group, commit_front, committed, new_group, take_committed}
+use Rattle.hs_replica.specs.Group.{Group, committed, new_group, take_committed}
 use Rattle.hs_replica.specs.Kinds.{is_block, is_root}
 use Rattle.hs_roots.specs.Roots.{retained_count}
 use Rattle.hs_shard.specs.declared.effect.Effect.{Effect}
@@ -185,58 +186,11 @@ due_orderly name shard c its = go (is_enter_due shard c)
     go true = own_orderly name shard (kind.Enter 0 ((catalogue_of shard c).epoch + 1)) c refl its
     go false = its
 
-pub view_idle : PassesIdle is_for_view
-view_idle w passes = go w.wait passes
-  where
-    go : (x : Wait) → is_for_view (record w { wait = x }) ≡ true → IsIdle x
-    go wait.View p = tt
-    go wait.Address p = tt
-    go wait.Room p = tt
-    go (wait.Bytes number) p = tt
-    go (wait.Entry number) p = absurd (cc p)
-
-pub wakes_idle : (entry : Entry) (a : Option Address) (c : Core) → PassesIdle (wakes entry a c)
-wakes_idle (kind.Block line least bytes) a c w passes = go w.wait passes
-  where
-    go : (x : Wait) → wakes (kind.Block line least bytes) a c (record w { wait = x }) ≡ true → IsIdle x
-    go wait.View p = tt
-    go wait.Address p = tt
-    go wait.Room p = tt
-    go (wait.Bytes number) p = tt
-    go (wait.Entry number) p = absurd (cc p)
-wakes_idle (kind.Root line held kept key) a c w passes = go w.wait passes
-  where
-    go : (x : Wait) → wakes (kind.Root line held kept key) a c (record w { wait = x }) ≡ true → IsIdle x
-    go wait.View p = tt
-    go wait.Address p = tt
-    go wait.Room p = tt
-    go (wait.Bytes number) p = tt
-    go (wait.Entry number) p = absurd (cc p)
-wakes_idle (kind.View view) a c w passes = absurd (cc passes)
-wakes_idle (kind.Mark line least block b) a c w passes = absurd (cc passes)
-wakes_idle (kind.Drop line key) a c w passes = absurd (cc passes)
-wakes_idle (kind.Enter line epoch) a c w passes = absurd (cc passes)
-wakes_idle (kind.Got from epoch round total deltas) a c w passes = absurd (cc passes)
-wakes_idle (kind.Base view epoch swept round frames) a c w passes = absurd (cc passes)
-wakes_idle (kind.KeptBlock born mark flags count bytes) a c w passes = absurd (cc passes)
-wakes_idle (kind.KeptRoot created dropped counted address key) a c w passes = absurd (cc passes)
-wakes_idle (kind.KeptRound way other epoch round total deltas) a c w passes = absurd (cc passes)
-
 -- ---- one entry, and all that are committed
 
 module _ (name : List ℕ → Address) (shard : ℕ) (c : Core) (its : IsOrderly name c) where
   pub told_orderly : (line : ℕ) (did : What) → IsFree c line → IsOrderly name (tell_operation line did c)
   told_orderly line did free = going_orderly (λ v o. effect_step v did o) (done_asks did) name line c its free
-
-  view_orderly : (view : ℕ) → IsOrderly name (reach_view shard view c)
-  view_orderly view = go (view == (group_of shard c).view)
-    where
-      viewed : IsOrderly name (set_viewed shard true c)
-      viewed = alike_orderly name c (set_viewed shard true c) (record { operations = refl; sessions = refl; limits = refl; shape = refl; waiting = λ g. refl; front = λ g. refl; catalogue = λ g. refl }) its
-
-      go : (b : Bool) → IsOrderly name (change_if b (λ x. resume_where shard is_for_view (set_viewed shard true x)) c)
-      go true = resumed_orderly name shard is_for_view view_idle (set_viewed shard true c) viewed
-      go false = its
 
   pub enter_orderly : (line : ℕ) (did : What) → ((line == 0) ≡ false → IsFree c line) → IsOrderly name (tell_enter shard line did c)
   enter_orderly line did free = go (operation_of line c) refl
@@ -248,22 +202,18 @@ module _ (name : List ℕ → Address) (shard : ℕ) (c : Core) (its : IsOrderly
       go None at = alike_orderly name c (note_enter shard did c) (enter_alike shard did c) its
       go (Some u) at = told_orderly line did (free (counted ((its.pending line u at).counted)))
 
-  swept_orderly : (removed : Option ℕ) → IsOrderly name (propose_due shard (change_with removed (note_sweep shard) c))
-  swept_orderly None = due_orderly name shard c its
-  swept_orderly (Some n) = due_orderly name shard (note_sweep shard n c) (alike_orderly name c (note_sweep shard n c) (sweep_alike shard n c) its)
+  swept_orderly : (removed : Option ℕ) → IsOrderly name (change_with removed (note_sweep shard) c)
+  swept_orderly None = its
+  swept_orderly (Some n) = alike_orderly name c (note_sweep shard n c) (sweep_alike shard n c) its
 
-  behind_orderly : (entry : Entry) (effect : Effect) → ((line : ℕ) → asked_by entry ≡ Some line → IsFree c line) → IsOrderly name (after_entry shard entry effect c)
-  behind_orderly (kind.View view) effect free = view_orderly view
-  behind_orderly (kind.Block line least bytes) effect free = told_orderly line effect.what (free line refl)
-  behind_orderly (kind.Mark line least block a) effect free = told_orderly line effect.what (free line refl)
-  behind_orderly (kind.Root line held a key) effect free = told_orderly line effect.what (free line refl)
-  behind_orderly (kind.Drop line key) effect free = told_orderly line effect.what (free line refl)
-  behind_orderly (kind.Enter line epoch) effect free = enter_orderly line effect.what (λ e. free line (ap (λ b. cond b None (Some line)) e))
-  behind_orderly (kind.Got from epoch round total deltas) effect free = swept_orderly effect.removed
-  behind_orderly (kind.Base view epoch swept round frames) effect free = its
-  behind_orderly (kind.KeptBlock born mark flags count bytes) effect free = its
-  behind_orderly (kind.KeptRoot created dropped counted address key) effect free = its
-  behind_orderly (kind.KeptRound way other epoch round total deltas) effect free = its
+  at_once_orderly : (entry : Entry) (effect : Effect) → ((line : ℕ) → asked_by entry ≡ Some line → IsFree c line) → IsOrderly name (tells_at_once shard entry effect c)
+  at_once_orderly (kind.Block line least bytes) effect free = told_orderly line effect.what (free line refl)
+  at_once_orderly (kind.Mark line least block a) effect free = told_orderly line effect.what (free line refl)
+  at_once_orderly (kind.Root line held a key) effect free = told_orderly line effect.what (free line refl)
+  at_once_orderly (kind.Drop line key) effect free = told_orderly line effect.what (free line refl)
+  at_once_orderly (kind.Enter line epoch) effect free = enter_orderly line effect.what (λ e. free line (ap (λ b. cond b None (Some line)) e))
+  at_once_orderly (kind.Got from epoch round total deltas) effect free = swept_orderly effect.removed
+  at_once_orderly other effect free = its
 
 same_le : (m n k : ℕ) → m ≡ n → m ≤ n + k
 same_le m n k e = omega (arith, e)
@@ -321,7 +271,8 @@ taken_room name shard number entry c its e g = go (one_or_other g shard)
     go (inl is) = subst (λ j. HasRoom (taken shard entry c) j) (sym is) at_shard
     go (inr d) = alike_room c here g refl (list_other d (group_changed shard take_committed c g)) (other-at (empty_catalogue (shape_of c) g) c.catalogues shard g done d) (its.roomy g)
 
-pub effect_orderly : (name : List ℕ → Address) (shard number : ℕ) (entry : Entry) (c : Core) → IsOrderly name c → committed (group_of shard c) ≡ Some (number, entry) → IsOrderly name (take_effect shard entry c)
+-- the core when an entry has taken effect and was told of
+pub effect_orderly : (name : List ℕ → Address) (shard number : ℕ) (entry : Entry) (c : Core) → IsOrderly name c → committed (group_of shard c) ≡ Some (number, entry) → IsOrderly name (told_at_once shard entry c)
 effect_orderly name shard number entry c its e =
     let first : Core = change_group shard take_committed c in
     let here : Core = taken shard entry c in
@@ -329,20 +280,4 @@ effect_orderly name shard number entry c its e =
     let its_here : IsOrderly name here = with_lists name first here its_first refl refl refl refl
     (λ g place k x at by. asked_alike name first here g (front_of g first + 1 + place) (front_of g here + 1 + place) k x refl refl refl refl refl (its_first.asked g place k x at by))
     (taken_room name shard number entry c its e) in
-    let effect : Effect = (done_by shard entry c).effect in
-    resumed_orderly name shard (wakes entry (named entry c) (after_entry shard entry effect here)) (wakes_idle entry (named entry c) (after_entry shard entry effect here)) (after_entry shard entry effect here)
-    (behind_orderly name shard here its_here entry effect (λ line by g place x at of. taken_free name shard number line entry c its e by g place x at of))
-
-pub next_orderly : (name : List ℕ → Address) (shard : ℕ) (c : Core) → IsOrderly name c → IsOrderly name (commit_next shard c)
-next_orderly name shard c its = go (committed (group_of shard c)) refl
-  where
-    go : (o : Option (ℕ × Entry)) → committed (group_of shard c) ≡ o → IsOrderly name (change_with o (λ (e : ℕ × Entry). take_effect shard e.1) c)
-    go None e = its
-    go (Some x) e = effect_orderly name shard x.0 x.1 c its e
-
-times_orderly : (name : List ℕ → Address) (shard n : ℕ) (c : Core) → IsOrderly name c → IsOrderly name (times n (commit_next shard) c)
-times_orderly name shard zero c its = its
-times_orderly name shard (suc n) c its = times_orderly name shard n (commit_next shard c) (next_orderly name shard c its)
-
-pub commit_orderly : (name : List ℕ → Address) (shard : ℕ) (c : Core) → IsOrderly name c → IsOrderly name (commit shard c)
-commit_orderly name shard c its = times_orderly name shard (commit_front (group_of shard c) - front_of shard c) c its
+    at_once_orderly name shard here its_here entry (done_by shard entry c).effect (λ line by g place x at of. taken_free name shard number line entry c its e by g place x at of)

@@ -1,22 +1,20 @@
 -- Operations that go on keep the order.
-use Rattle.std.proofs.Common.{◌≡◌, ◌∙◌, sym, ap, subst, inl, inr, ℕ, ◌+◌, ◌==◌, ◌&&◌, Bool, true, false, cond, map, filter, List, [], ◌∷◌, Option, Some, None, refl}
-use Rattle.std.specs.BTreeMap.{is_at}
-use Rattle.std.specs.List.{AllByRecursion}
-use Rattle.std.specs.Map.{lookup}
-use Rattle.std.specs.Ordering.{nat_cmp}
-use Rattle.hs_awaiting.specs.declared.wait.Wait.{Wait}
+use Rattle.std.proofs.Common.{◌≡◌, ◌∙◌, sym, ap, subst, inl, inr, ℕ, ◌+◌, ◌==◌, Bool, true, false, cond, List, [], ◌∷◌, Option, Some, None, refl}
+pub use Rattle.hs_anatomy.proofs.ReadyLemmas.{AreReady, PassesIdle, ready_lines, ready_on}
+use Rattle.hs_anatomy.proofs.ReadyLemmas.{ready_where}
+pub use Rattle.hs_anatomy.specs.Once.{IsIdle}
 use Rattle.hs_awaiting.specs.declared.wait.Wait.TheVariants as wait
 use Rattle.hs_awaiting.specs.declared.waiting.Waiting.{Waiting}
 use Rattle.hs_awaiting.specs.Words.{change_with, each}
-use Rattle.hs_core_words.specs.Changing.{add_entry_tasks, change_group, post, put_operation}
+use Rattle.hs_core_words.specs.Changing.{put_operation}
 use Rattle.hs_core_words.specs.Looking.{group_of, lead_of, operation_of}
 use Rattle.hs_core_words.specs.Operating.{add_read, carry_out, go_on_with, lines_where, propose_entry, resume, resume_where, take_step, wait_for, what_holds}
 use Rattle.hs_core_words.specs.Seeing.{view_for}
 use Rattle.hs_core_words.specs.State.{Core}
-use Rattle.hs_effects.specs.Logged.{AreOnce, HasAsked, IsEntryOf, IsOrderly, IsOwn, asked_by}
+use Rattle.hs_effects.specs.Logged.{HasAsked, IsEntryOf, IsOrderly, IsOwn, asked_by}
 use Rattle.hs_effects.specs.Taking.{taken}
-use Rattle.hs_effects.proofs.LookLemmas.{each_found, found_set, number_exact, remove_other, same_number, set_other}
-use Rattle.hs_effects.proofs.OrderlyLemmas.{Alike, IsFree, alike_orderly, alike_same, answered_orderly, proposed_orderly, some_is, waits_orderly}
+use Rattle.hs_effects.proofs.LookLemmas.{found_set}
+use Rattle.hs_effects.proofs.OrderlyLemmas.{Alike, IsFree, alike_orderly, alike_same, answered_orderly, proposed_orderly, waits_orderly}
 use Rattle.hs_effects.proofs.RoomLemmas.{HasPlace, placed}
 use Rattle.hs_effects.proofs.StepLemmas.{AsksWith, Passes, going_asks}
 use Rattle.hs_entry.specs.declared.entry.Entry.{Entry}
@@ -27,7 +25,7 @@ use Rattle.hs_ops.specs.declared.step.OpStep.{OpStep}
 use Rattle.hs_ops.specs.declared.step.OpStep.TheVariants as step
 use Rattle.hs_ops.specs.Operations.{Operation, after_step, go_step}
 use Rattle.hs_ops.specs.Views.{OpView}
-use Rattle.hs_replica.specs.Group.{last_number, proposal, propose}
+use Rattle.hs_replica.specs.Group.{last_number}
 use Rattle.hs_tokens.specs.Seats.{Seats}
 
 -- ---- the line of an entry is its operation's
@@ -112,93 +110,16 @@ going_orderly next asks name line c its free = go (operation_of line c) refl
 
 -- ---- which lines may go on
 
--- what is waited for is no entry
-abbrev pub IsIdle : Wait → Type 0
-IsIdle (wait.Entry number) = ⊥
-IsIdle other = Unit {0}
-
 pub idle_free : (name : List ℕ → Address) (c : Core) (line : ℕ) → IsOrderly name c → ((w : Waiting) → operation_of line c ≡ Some w → IsIdle w.wait) → IsFree c line
 idle_free name c line its idle = λ shard place entry at by.
     let h = its.asked shard place line entry at by in
     subst (λ x. IsIdle x) h.waits (idle h.waiting h.at)
-
--- lines that may go on one after another: no line twice, and none waits for an entry
-abbrev pub AreReady : Core → List ℕ → Type 0
-AreReady c [] = Unit {0}
-AreReady c (line ∷ rest) = AllByRecursion (λ m. m ≡ line → ⊥) rest × ((w : Waiting) → operation_of line c ≡ Some w → IsIdle w.wait) × AreReady c rest
-
--- a line that goes on leaves the others
-go_on_other : (next : OpView → Operation → OpStep) (line m : ℕ) (c : Core) → (m ≡ line → ⊥) → operation_of m (go_on_with next line c) ≡ operation_of m c
-go_on_other next line m c d = go (operation_of line c)
-  where
-    sent : (lead : Option ℕ) (n : ℕ) (entry : Entry) (x : Core) → operation_of m (change_with lead (λ peer. add_entry_tasks peer n entry) x) ≡ operation_of m x
-    sent None n entry x = refl
-    sent (Some peer) n entry x = refl
-
-    read : (lead : Option ℕ) (n : ℕ) (x : Core) → operation_of m (change_with lead (add_read n line) x) ≡ operation_of m x
-    read None n x = refl
-    read (Some peer) n x = refl
-
-    carried_other : (w : Waiting) (taken : OpStep) → operation_of m (carry_out line w taken c) ≡ operation_of m c
-    carried_other w (step.Answer told) = remove_other nat_cmp number_exact c.operations line m d
-    carried_other w (step.Propose entry) =
-        let waits : Core = wait_for line w (wait.Entry (last_number (group_of w.shard c) + 1)) c in
-        sent (lead_of w.shard waits) (last_number (group_of w.shard waits) + 1) entry (post (proposal entry (group_of w.shard waits)) (change_group w.shard (propose entry) waits))
-        ∙ set_other nat_cmp number_exact c.operations line m (record w { wait = wait.Entry (last_number (group_of w.shard c) + 1) }) d
-    carried_other w (step.Compare number) =
-        read (lead_of w.shard c) number (wait_for line w (wait.Bytes number) c) ∙ set_other nat_cmp number_exact c.operations line m (record w { wait = wait.Bytes number }) d
-    carried_other w step.Wait = set_other nat_cmp number_exact c.operations line m (record w { wait = what_holds w c }) d
-
-    go : (o : Option Waiting) → operation_of m (change_with o (λ w. take_step line w (next (view_for w.shard w.operation.op c) w.operation)) c) ≡ operation_of m c
-    go None = refl
-    go (Some u) = carried_other (record u { operation = after_step (next (view_for u.shard u.operation.op c) u.operation) u.operation }) (next (view_for u.shard u.operation.op c) u.operation)
-
-pub ready_on : (c : Core) (line : ℕ) (rest : List ℕ) → AllByRecursion (λ m. m ≡ line → ⊥) rest → AreReady c rest → AreReady (resume line c) rest
-ready_on c line [] apart ready = tt
-ready_on c line (m ∷ rest) apart ready =
-    (ready.0, (λ w e. ready.1 w (sym (go_on_other go_step line m c apart.0) ∙ e)), ready_on c line rest apart.1 ready.2)
 
 pub each_orderly : (name : List ℕ → Address) (lines : List ℕ) (c : Core) → IsOrderly name c → AreReady c lines → IsOrderly name (each lines resume c)
 each_orderly name [] c its ready = its
 each_orderly name (line ∷ rest) c its ready =
     each_orderly name rest (resume line c) (going_orderly go_step going_asks name line c its (idle_free name c line its ready.1)) (ready_on c line rest ready.0 ready.2)
 
--- ---- the operations that pass a test
-
--- a test that passes nothing which waits for an entry
-abbrev pub PassesIdle : (Waiting → Bool) → Type 0
-PassesIdle test = (w : Waiting) → test w ≡ true → IsIdle w.wait
-
-apart_lines : (shard : ℕ) (test : Waiting → Bool) (k : ℕ) (es : List (ℕ × Waiting)) → lookup (is_at (nat_cmp k)) es ≡ None → AllByRecursion (λ m. m ≡ k → ⊥) (map (λ (e : ℕ × Waiting). e.0) (filter (λ e. e.1.shard == shard && test e.1) es))
-apart_lines shard test k [] none = tt
-apart_lines shard test k (e ∷ es) none = go (is_at (nat_cmp k) e.0) refl none (e.1.shard == shard && test e.1) (apart_lines shard test k es)
-  where
-    rest : List (ℕ × Waiting)
-    rest = filter (λ x. x.1.shard == shard && test x.1) es
-
-    go : (b : Bool) → is_at (nat_cmp k) e.0 ≡ b → cond b (Some e.1) (lookup (is_at (nat_cmp k)) es) ≡ None → (passes : Bool)
-        → (lookup (is_at (nat_cmp k)) es ≡ None → AllByRecursion (λ m. m ≡ k → ⊥) (map (λ (x : ℕ × Waiting). x.0) rest))
-        → AllByRecursion (λ m. m ≡ k → ⊥) (map (λ (x : ℕ × Waiting). x.0) (cond passes (e ∷ rest) rest))
-    go true i n passes ih = absurd (cc n)
-    go false i n true ih = ((λ d. cc (sym i ∙ ap (λ j. is_at (nat_cmp k) j) d ∙ at_own)), ih n)
-      where
-        at_own : is_at (nat_cmp k) k ≡ true
-        at_own = rw (same_number k) refl
-    go false i n false ih = ih n
-
-pub ready_lines : (shard : ℕ) (test : Waiting → Bool) → PassesIdle test → (c : Core) (es : List (ℕ × Waiting)) → AreOnce es → AllByRecursion (λ (e : ℕ × Waiting). operation_of e.0 c ≡ Some e.1) es
-    → AreReady c (map (λ (e : ℕ × Waiting). e.0) (filter (λ e. e.1.shard == shard && test e.1) es))
-ready_lines shard test idle c [] once all = tt
-ready_lines shard test idle c (e ∷ es) once all = go (e.1.shard == shard) (test e.1) refl (ready_lines shard test idle c es once.1 all.1)
-  where
-    rest : List (ℕ × Waiting)
-    rest = filter (λ x. x.1.shard == shard && test x.1) es
-
-    go : (a b : Bool) → test e.1 ≡ b → AreReady c (map (λ (x : ℕ × Waiting). x.0) rest) → AreReady c (map (λ (x : ℕ × Waiting). x.0) (cond (a && b) (e ∷ rest) rest))
-    go true true t ih = (apart_lines shard test e.0 es once.0, (λ w at. subst (λ x. IsIdle x.wait) (some_is e.1 w (sym all.0 ∙ at)) (idle e.1 t)), ih)
-    go true false t ih = ih
-    go false b t ih = ih
-
 pub resumed_orderly : (name : List ℕ → Address) (shard : ℕ) (test : Waiting → Bool) → PassesIdle test → (c : Core) → IsOrderly name c → IsOrderly name (resume_where shard test c)
 resumed_orderly name shard test idle c its =
-    each_orderly name (lines_where shard test c) c its (ready_lines shard test idle c c.operations its.once (each_found c.operations its.once))
+    each_orderly name (lines_where shard test c) c its (ready_where shard test idle c its.once)

@@ -1,10 +1,8 @@
 -- Operations that wait for their entry, and the entries that they asked for.
-use Rattle.std.specs.BTreeMap.{is_at}
 use Rattle.std.specs.List.{list_all}
-use Rattle.std.specs.Map.{lookup}
 use Rattle.std.specs.Option.{option_map}
-use Rattle.std.specs.Ordering.{nat_cmp}
 use Rattle.std.specs.Prelude.{◌≡◌, ◌⊎◌, ℕ, ◌+◌, ◌==◌, ◌≤◌, List, [], ◌∷◌, length, Option, Some, None, IsSome, is_none, is_some, true, slice_get, if◌then◌else◌}
+pub use Rattle.hs_anatomy.specs.Once.{AreOnce}
 use Rattle.hs_awaiting.specs.declared.wait.Wait.TheVariants as wait
 use Rattle.hs_awaiting.specs.declared.waiting.Waiting.{Waiting}
 use Rattle.hs_core_words.specs.declared.event.Event.{Event}
@@ -105,11 +103,6 @@ pub record IsPending (name : List ℕ → Address) (core : Core) (line : ℕ) (w
   pub opened : (session : List ℕ) → session_of (Some w.operation.op) ≡ Some session → IsSome (seat_of session core.sessions)
   pub called : IsCalled name core.sessions w.operation.op
   pub judges : w.shard ≡ judging_shard (shape_of core).shards core.sessions w.operation.op
-
--- no key stands in a map twice
-abbrev pub AreOnce : {X : Type 0} → List (ℕ × X) → Type 0
-AreOnce [] = Unit {0}
-AreOnce (e ∷ es) = (lookup (is_at (nat_cmp e.0)) es ≡ None) × AreOnce es
 
 -- operations without an answer, and entries that have not taken effect, as they stand between any two changes: no line has two, no session has two, each entry is what its operation waits for, and there is room for each
 pub record IsOrderly (name : List ℕ → Address) (core : Core) : Type 0 where

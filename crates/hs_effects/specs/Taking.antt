@@ -1,9 +1,7 @@
 -- An entry that takes effect, beside the folds which the catalogues of a core are.
 use Rattle.std.specs.Prelude.{◌≡◌, ℕ, ◌+◌, List}
-use Rattle.hs_awaiting.specs.Words.{◌▸◌}
-use Rattle.hs_core_words.specs.Changing.{change_group, post, set_catalogue}
-use Rattle.hs_core_words.specs.Effects.{round_messages}
-use Rattle.hs_core_words.specs.Looking.{catalogue_of, front_of, shape_of}
+pub use Rattle.hs_anatomy.specs.Effect.{done_by, taken}
+use Rattle.hs_core_words.specs.Looking.{front_of, shape_of}
 use Rattle.hs_core_words.specs.Pending.{named}
 use Rattle.hs_core_words.specs.State.{Core}
 use Rattle.hs_entry.specs.declared.entry.Entry.{Entry}
@@ -13,21 +11,8 @@ use Rattle.hs_fold.specs.Runs.History.{follow}
 use Rattle.hs_fold.specs.Shards.Setting.{Setting}
 use Rattle.hs_limits.specs.declared.address.Address.{Address}
 use Rattle.hs_memory.specs.Forget.{named as named_by}
-use Rattle.hs_replica.specs.Group.{take_committed}
-use Rattle.hs_shard.specs.Apply.{apply}
-use Rattle.hs_shard.specs.Clients.{Applied}
 
 -- ---- in the core
-
--- what an entry of a shard leaves of its catalogue, and its effect
-abbrev pub done_by : ℕ → Entry → Core → Applied
-done_by shard entry core = apply (front_of shard core + 1) entry (named entry core) (catalogue_of shard core)
-
--- the core behind it, before anything is told or goes on by it
-abbrev pub taken : ℕ → Entry → Core → Core
-taken shard entry core =
-    core ▸ change_group shard take_committed ▸ set_catalogue shard (done_by shard entry core).catalogue
-    ▸ post (round_messages shard (done_by shard entry core).effect.sends)
 
 -- the address that the core finds for an entry is the one that comes with it: of a Block the name of its bytes
 abbrev pub IsNamed : (List ℕ → Address) → Entry → Core → Type 0

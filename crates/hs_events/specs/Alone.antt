@@ -2,7 +2,8 @@
 use Rattle.std.specs.List.{All, enumerate_from}
 use Rattle.std.specs.Map.{values_of}
 use Rattle.std.specs.Option.{option_map_or}
-use Rattle.std.specs.Prelude.{◌≡◌, ◌⊎◌, ℕ, ◌<◌, ◌≤◌, Bool, true, false, List, [], ◌∷◌, ◌++◌, Option, Some, None, flat_map, length, slice_index_or}
+use Rattle.std.specs.Prelude.{◌≡◌, ◌⊎◌, ℕ, ◌<◌, ◌≤◌, true, false, List, [], ◌∷◌, ◌++◌, Option, Some, None, flat_map, length, slice_index_or}
+pub use Rattle.hs_anatomy.specs.Rounds.{is_round}
 use Rattle.hs_core_words.specs.declared.task.Task.{Task}
 use Rattle.hs_core_words.specs.State.{Core}
 use Rattle.hs_desk.specs.declared.job.Job.TheVariants as job
@@ -11,8 +12,6 @@ use Rattle.hs_entry.specs.Entries.{is_of_base}
 use Rattle.hs_limits.specs.declared.limits.PeerStatus.TheVariants.{Good}
 use Rattle.hs_limits.specs.declared.shape.Shape.{Shape}
 use Rattle.hs_members.specs.Members.{Members, status}
-use Rattle.hs_post.specs.declared.message.Message.{Message}
-use Rattle.hs_post.specs.declared.message.Message.TheVariants as message
 use Rattle.hs_post.specs.Pool.{Pool}
 use Rattle.hs_replica.specs.declared.replica.Replica.{Replica}
 use Rattle.hs_replica.specs.Group.{Group, entries_above, last_number, new_group, no_copy}
@@ -102,12 +101,6 @@ group_in shard f = slice_index_or f.groups shard (new_group f.members.shape shar
 
 abbrev pub tasks_in : ℕ → Face → List Task
 tasks_in peer f = slice_index_or f.tasks peer []
-
--- copies say nothing to each other: only Rounds are under way
-abbrev pub is_round : Message → Bool
-is_round (message.Copy shard to view number entry) = false
-is_round (message.Have shard from to view sealed) = false
-is_round (message.Round from to epoch round total deltas) = true
 
 pub record AreAlone (f : Face) : Type 0 where
   pub copies : f.members.shape.copies ≡ 1

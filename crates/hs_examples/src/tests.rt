@@ -9,7 +9,7 @@ use std::alloc::{AllocError, Global};
 use std::test::Fail;
 
 /// The words of a command line.
-fn words_of(alloc: Global, text: &str) -> Result<Vec<String>, AllocError> {
+pub(crate) fn words_of(alloc: Global, text: &str) -> Result<Vec<String>, AllocError> {
     let mut words = Vec::new(alloc);
     for word in text.split(' ') {
         words.push(String::from_str(alloc, word)?)?;
@@ -18,11 +18,12 @@ fn words_of(alloc: Global, text: &str) -> Result<Vec<String>, AllocError> {
 }
 
 #[test]
-fn the_whole_program_runs_a_script_and_no_load(rt: HostRuntime) -> Result<(), Fail> {
+fn the_whole_program_runs_a_script(rt: HostRuntime) -> Result<(), Fail> {
     let alloc = rt.alloc();
     for (text, fits, code, put) in [
         ("script d 1 1", true, 0, b"1 ok\n".as_slice()),
         ("load d 1 1", false, 2, b"".as_slice()),
+        ("copy d 1 1 k e 1 1", false, 2, b"".as_slice()),
     ] {
         let words = words_of(alloc, text)?;
         assert_eq!(rt; shape_of(&words).is_some(), fits, "{text}");

@@ -1,7 +1,7 @@
 -- How many entries a peer has sealed is changed by reports alone.
-use Rattle.std.proofs.Common.{◌≡◌, ◌∙◌, ℕ, zero, suc, ◌+◌, ◌-◌, ◌==◌, ◌&&◌, not, Bool, true, false, List, [], ◌∷◌, Option, Some, None, refl, arith, length, max, nat_lt, is_none}
+use Rattle.std.proofs.Common.{Bool, List, None, Option, Some, [], ap, arith, false, is_none, length, max, nat_lt, not, refl, suc, sym, true, zero, ℕ, ◌&&◌, ◌+◌, ◌-◌, ◌==◌, ◌∙◌, ◌∷◌, ◌≡◌}
 use Rattle.std.specs.Prelude.{slice_get, slice_index_or, slice_set}
-use Rattle.hs_events.proofs.KeepLemmas.{Leaves, keeps_begin, keeps_delivered, keeps_failed, keeps_lost, keeps_nudged, keeps_repeated, keeps_started, keeps_turn}
+use Rattle.hs_events.proofs.KeepLemmas.{Leaves, keeps_quiet, with_line}
 use Rattle.hs_events.specs.Asked.{report_in}
 use Rattle.hs_awaiting.specs.Words.{change_if}
 use Rattle.hs_core_words.specs.Changing.{change_group, change_pool}
@@ -114,18 +114,14 @@ ends c = go (nat_lt c.limits.ops (length c.journal + length c.entries)) refl
 
 -- but for reports
 quiet : (e : Event) (c : Core) → report_in e ≡ None → SealsStay c (do_event e c)
-quiet (event.Line line o) c h = leaves.both c (record c { progress = record c.progress { last_line = line } }) _ (same_seals c _ (λ peer. refl)) (keeps_begin leaves line o c)
-quiet (event.Report p d) c h = absurd (some_is_not (p, d) h)
+quiet e c h = leaves.both c (with_line e c) (do_event e c) (same_seals c (with_line e c) (lined e)) (keeps_quiet leaves e c (λ p d is. some_is_not (p, d) (sym (ap report_in is) ∙ h)))
   where
     some_is_not : (x : ℕ × Done) → Some x ≡ None → ⊥
     some_is_not x e = grind arith
-quiet (event.Turn line p) c h = keeps_turn leaves line p c
-quiet (event.Deliver line number) c h = keeps_delivered leaves line number c
-quiet (event.Lose line number) c h = keeps_lost leaves line number c
-quiet (event.Repeat line number) c h = keeps_repeated leaves line number c
-quiet (event.Nudge line p) c h = keeps_nudged leaves line p c
-quiet (event.Fail line p) c h = keeps_failed leaves line p c
-quiet (event.Start line p) c h = keeps_started leaves line p c
+
+    lined : (x : Event) (peer : ℕ) → sealed_of peer (with_line x c) ≡ sealed_of peer c
+    lined (event.Line line o) peer = refl
+    lined other peer = refl
 
 run_quiet : (e : Event) (at : ℕ) (c : Core) → report_in e ≡ None → SealsStay c (run_event e at c)
 run_quiet e at c h =

@@ -18,7 +18,7 @@ use hs_ports::{Disk, Watch};
 impl PeerLog {
     /// Puts an entry behind the others, with its gate closed: it is none of the list until `seal`.
     /// It does not sync. Without memory nothing changes. After `Disk` the log must be recovered
-    /// again.
+    /// again; what it tells without the disk is as it was.
     pub fn append<D: Disk>(
         &mut self,
         disk: &mut D,
@@ -50,6 +50,8 @@ impl PeerLog {
 
         ensures refused { IfErr result IsOutside }
         ensures kept { IsErrOf result LogFault.NoMemory → self.new ≡ self.old }
+        ensures stays { IfErr result (λ fault. (self.new.rank ≡ self.old.rank)
+            × (self.new.waits ≡ self.old.waits)) }
 
         // What a crash leaves at each moment: the list before.
         ensures any_moment { D.tells → (D.stands disk.old).last ≤ watch.old

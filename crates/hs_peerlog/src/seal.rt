@@ -15,7 +15,7 @@ use hs_ports::{Disk, Watch};
 impl PeerLog {
     /// Seals the entry that waits: puts its frame on the medium, opens its gate, and puts that on
     /// the medium. After Ok no crash takes it away. It takes no memory. After `Disk` the log must be
-    /// recovered again.
+    /// recovered again; what it tells without the disk is as it was, and the entry waits.
     pub fn seal<D: Disk>(&mut self, disk: &mut D, watch: &mut Watch) -> Result<(), LogFault>
         requires ready { IsReady D.tells self.old (D.size disk.old self.old.log.side)
             (D.stands disk.old) }
@@ -37,6 +37,8 @@ impl PeerLog {
             (with_waiting list entry) None) }
 
         ensures refused { IfErr result (λ fault. fault ≡ LogFault.Disk) }
+        ensures stays { IfErr result (λ fault. (self.new.rank ≡ self.old.rank)
+            × (self.new.waits ≡ self.old.waits)) }
 
         // What a crash leaves at each moment: the list before, or the list with the entry.
         ensures any_moment { D.tells → (D.stands disk.old).last ≤ watch.old

@@ -4,18 +4,13 @@ use Rattle.std.proofs.lemmas.Bool.{ltb-false, ltb-true}
 use Rattle.std.proofs.lemmas.List.{append-nil, length-append}
 use Rattle.std.specs.List.{AllByRecursion}
 use Rattle.std.specs.Option.{option_map}
-use Rattle.hs_answered.proofs.RefusalLemmas.{IsOfKind, first_is}
 use Rattle.hs_awaiting.specs.Words.{change_if}
-use Rattle.hs_core_words.specs.Asking.{deliver, lose, no_peer, not_down, not_up, nudge_good, send_again, unless_refused}
-use Rattle.hs_core_words.specs.Changing.{change_pool, post, refuse}
+use Rattle.hs_core_words.specs.Changing.{change_pool, refuse}
 use Rattle.hs_core_words.specs.declared.event.Event.{Event}
 use Rattle.hs_core_words.specs.declared.event.Event.TheVariants as event
-use Rattle.hs_core_words.specs.Failing.{go_down}
-use Rattle.hs_core_words.specs.Joining.{start}
 use Rattle.hs_core_words.specs.Looking.{lost_shard, shape_of}
 use Rattle.hs_core_words.specs.State.{Core}
 use Rattle.hs_core_words.specs.Step.{begin_event, do_event, end_event, keep_entries, line_of, refuse_entries, run_event, step}
-use Rattle.hs_desk.specs.declared.done.Done.{Done}
 use Rattle.hs_desk.specs.declared.done.Done.TheVariants as done
 use Rattle.hs_desk.specs.declared.fault.CoreFault.TheVariants as fault
 use Rattle.hs_journal.specs.declared.entry.JournalEntry.{JournalEntry}
@@ -27,17 +22,14 @@ use Rattle.hs_model.specs.declared.command.Command.{Command}
 use Rattle.hs_model.specs.declared.deed.Deed.TheVariants as deed
 use Rattle.hs_model.specs.declared.reply.Reply.{Reply}
 use Rattle.hs_model.specs.declared.reply.Reply.TheVariants as reply
-use Rattle.hs_model.specs.Refusals.{refused_when}
-use Rattle.hs_settled.proofs.AsideLemmas.{aside_post}
-use Rattle.hs_settled.proofs.CalmLemmas.{IsNoNote}
-use Rattle.hs_settled.proofs.NotedEventLemmas.{by_message, by_rows, line_then}
+use Rattle.hs_settled.proofs.CalmLemmas.{IsNoNote, refusal_tells}
+use Rattle.hs_settled.proofs.NotedEventLemmas.{line_then}
 use Rattle.hs_settled.proofs.NotingLemmas.{all_append}
 use Rattle.hs_settled.proofs.RefusalLemmas.{ended_told}
-use Rattle.hs_settled.proofs.NotedWalkLemmas.{Tells, stays_deliver, stays_down, stays_line, stays_lose, stays_nudge, stays_report, stays_start}
+use Rattle.hs_settled.proofs.NotedWalkLemmas.{Tells, tells_event}
 use Rattle.hs_settled.specs.Noted.{IsNoted}
 use Rattle.hs_ops.specs.Answers.{deed_of}
-use Rattle.hs_post.specs.declared.message.Message.{Message}
-use Rattle.hs_post.specs.Pool.{is_full, restart_numbers}
+use Rattle.hs_post.specs.Pool.{restart_numbers}
 use Rattle.hs_told.specs.InTurn.{told_of}
 
 -- ---- while an event is done
@@ -109,41 +101,12 @@ module _ (shape : Shape) (limits : Limits) (before : List JournalEntry) (last : 
       let entry : JournalEntry = record { who = who.Line line; moment = c.moment; deed = deed.Nothing; reply = r } in
       more c entry (quiet entry none) p
 
-  when_told : (b : Bool) (r : Reply) → IsNoNote r → IsOfKind IsNoNote (refused_when b r)
-  when_told true r e = e
-  when_told false r e = tt
-
-  told_row : (x : Option Reply) (r : Reply) → IsOfKind IsNoNote x → x ≡ Some r → IsNoNote r
-  told_row x r h e = subst (λ y. IsOfKind IsNoNote y) e h
-
-  again_adds : (line : ℕ) (m : Message) (c : Core) → A c → A (send_again line m c)
-  again_adds line m c p = go (is_full c.pool)
-    where
-      go : (b : Bool) → A (cond b (refuse line (reply.PoolFull c.pool.limit) c) (post (m ∷ []) c))
-      go true = refused_adds line (reply.PoolFull c.pool.limit) c refl p
-      go false = adding_tells.beside c (post (m ∷ []) c) (aside_post (m ∷ []) c) p
-
-  up_adds : (line peer : ℕ) (f : Core → Core) (c : Core) → A c → A (f c) → A (unless_refused line (no_peer peer c ∷ not_up peer c ∷ []) f c)
-  up_adds line peer f c p q = by_rows A line (no_peer peer c ∷ not_up peer c ∷ []) f c
-      (λ r e. refused_adds line r c (told_row _ r (first_is IsNoNote (no_peer peer c ∷ not_up peer c ∷ []) (when_told _ (reply.NoPeer peer) refl, (when_told _ (reply.NotUp peer) refl, tt))) e) p) q
-
-  down_adds : (line peer : ℕ) (f : Core → Core) (c : Core) → A c → A (f c) → A (unless_refused line (no_peer peer c ∷ not_down peer c ∷ []) f c)
-  down_adds line peer f c p q = by_rows A line (no_peer peer c ∷ not_down peer c ∷ []) f c
-      (λ r e. refused_adds line r c (told_row _ r (first_is IsNoNote (no_peer peer c ∷ not_down peer c ∷ []) (when_told _ (reply.NoPeer peer) refl, (when_told _ (reply.NotDown peer) refl, tt))) e) p) q
-
   -- whatever an event does, where its note is such an entry
   pub adds_do : (e : Event) (c : Core) → ((peer disk moment : ℕ) → e ≡ event.Report peer (done.Failed disk) → Q (record { who = who.Store; moment = moment; deed = deed.Nothing; reply = reply.Down disk last })) → A c → A (do_event e c)
-  adds_do (event.Line line o) c may p = stays_line adding_tells line o c (record { shaped = p.shaped; limited = p.limited; groups = p.groups; line = p.line; journal = p.journal; refused = p.refused; entries = p.entries })
-  adds_do (event.Report peer d) c may p = stays_report adding_tells peer d c
-      (λ disk is x q. more x (record { who = who.Store; moment = x.moment; deed = deed.Nothing; reply = reply.Down disk x.progress.event_line })
-      (subst (λ n. Q (record { who = who.Store; moment = x.moment; deed = deed.Nothing; reply = reply.Down disk n })) (sym q.line) (may peer disk x.moment (ap (λ (y : Done). event.Report peer y) is))) q) p
-  adds_do (event.Turn line peer) c may p = up_adds line peer (λ x. x) c p p
-  adds_do (event.Deliver line number) c may p = by_message A line number (deliver number) c (λ e. refused_adds line (reply.NoMessage number) c refl p) (λ m e. stays_deliver adding_tells number m c p)
-  adds_do (event.Lose line number) c may p = by_message A line number (lose number) c (λ e. refused_adds line (reply.NoMessage number) c refl p) (λ m e. stays_lose adding_tells number m c p)
-  adds_do (event.Repeat line number) c may p = by_message A line number (send_again line) c (λ e. refused_adds line (reply.NoMessage number) c refl p) (λ m e. again_adds line m c p)
-  adds_do (event.Nudge line peer) c may p = up_adds line peer (nudge_good peer) c p (stays_nudge adding_tells peer c p)
-  adds_do (event.Fail line peer) c may p = up_adds line peer (go_down peer) c p (stays_down adding_tells peer c p)
-  adds_do (event.Start line peer) c may p = down_adds line peer (start peer) c p (stays_start adding_tells peer c p)
+  adds_do e c may p = tells_event adding_tells e c (λ line o is. record { shaped = p.shaped; limited = p.limited; groups = p.groups; line = p.line; journal = p.journal; refused = p.refused; entries = p.entries })
+      (λ r why. refused_adds (line_of e) r c (refusal_tells e c r why) p)
+      (λ by disk is x q. more x (record { who = who.Store; moment = x.moment; deed = deed.Nothing; reply = reply.Down disk x.progress.event_line })
+      (subst (λ n. Q (record { who = who.Store; moment = x.moment; deed = deed.Nothing; reply = reply.Down disk n })) (sym q.line) (may by disk x.moment is)) q) p
 
 -- ---- how an event ends
 

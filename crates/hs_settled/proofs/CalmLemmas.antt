@@ -1,8 +1,15 @@
 -- No step of an operation answers that a peer is down.
-use Rattle.std.proofs.Common.{◌≡◌, inl, inr, ℕ, Bool, true, false, not, List, Option, Some, None, refl, sym, subst}
+use Rattle.std.proofs.Common.{Bool, List, None, Option, Some, [], cond, false, inl, inr, not, refl, subst, sym, true, ℕ, ◌∷◌, ◌≡◌}
 use Rattle.std.specs.Option.{option_map, option_or}
 use Rattle.std.specs.Prelude.{if◌then◌else◌}
-use Rattle.hs_answered.proofs.RefusalLemmas.{Holds, IsOfKind, view_stops}
+use Rattle.hs_core_words.specs.declared.event.Event.TheVariants as event
+use Rattle.hs_model.specs.Refusals.{first, refused_when}
+use Rattle.hs_core_words.specs.declared.event.Event.{Event}
+use Rattle.hs_post.specs.Pool.{is_full, message_at}
+use Rattle.hs_core_words.specs.State.{Core}
+use Rattle.hs_post.specs.declared.message.Message.{Message}
+use Rattle.hs_anatomy.specs.Refusing.{message_refusal, refusal_in, repeat_refusal}
+use Rattle.hs_answered.proofs.RefusalLemmas.{Holds, IsOfKind, first_is, view_stops}
 use Rattle.hs_answered.proofs.StepLemmas.{Sees, go_sees, split_step, step_sees}
 use Rattle.hs_desk.specs.declared.what.What.{What}
 use Rattle.hs_desk.specs.declared.what.What.TheVariants as what
@@ -157,3 +164,38 @@ bytes_tells bytes pointers v operation r e = elim (split_step (refusal_of v oper
   | inl h ↦ told_at (refusal_of v operation.op) r (refusal_told v operation.op) h
   | inr h ↦ compared_told v operation.line (wanted_number operation.stage) bytes pointers operation.op r h.1
 ]
+
+-- ---- nor does the refusal of a line
+
+when_told : (b : Bool) (r : Reply) → IsNoNote r → IsOfKind IsNoNote (refused_when b r)
+when_told true r e = e
+when_told false r e = tt
+
+message_told : (number : ℕ) (m : Option Message) → IsOfKind IsNoNote (message_refusal number m)
+message_told number None = refl
+message_told number (Some m) = tt
+
+repeat_told : (number : ℕ) (c : Core) (m : Option Message) → IsOfKind IsNoNote (repeat_refusal number c m)
+repeat_told number c None = refl
+repeat_told number c (Some m) = go (is_full c.pool)
+  where
+    go : (b : Bool) → IsOfKind IsNoNote (cond b (Some (reply.PoolFull c.pool.limit)) None)
+    go true = refl
+    go false = tt
+
+peer_told : (a b : Bool) (q r : Reply) → IsNoNote q → IsNoNote r → IsOfKind IsNoNote (first (refused_when a q ∷ refused_when b r ∷ []))
+peer_told a b q r x y = first_is IsNoNote (refused_when a q ∷ refused_when b r ∷ []) (when_told a q x, (when_told b r y, tt))
+
+refused_told : (e : Event) (c : Core) → IsOfKind IsNoNote (refusal_in e c)
+refused_told (event.Line line o) c = tt
+refused_told (event.Report peer d) c = tt
+refused_told (event.Turn line peer) c = peer_told _ _ (reply.NoPeer peer) (reply.NotUp peer) refl refl
+refused_told (event.Deliver line number) c = message_told number (message_at number c.pool)
+refused_told (event.Lose line number) c = message_told number (message_at number c.pool)
+refused_told (event.Repeat line number) c = repeat_told number c (message_at number c.pool)
+refused_told (event.Nudge line peer) c = peer_told _ _ (reply.NoPeer peer) (reply.NotUp peer) refl refl
+refused_told (event.Fail line peer) c = peer_told _ _ (reply.NoPeer peer) (reply.NotUp peer) refl refl
+refused_told (event.Start line peer) c = peer_told _ _ (reply.NoPeer peer) (reply.NotDown peer) refl refl
+
+pub refusal_tells : (e : Event) (c : Core) (r : Reply) → refusal_in e c ≡ Some r → IsNoNote r
+refusal_tells e c r why = told_at (refusal_in e c) r (refused_told e c) why

@@ -6,7 +6,7 @@ use Rattle.std.specs.List.{AllByRecursion}
 use Rattle.std.specs.Prelude.{if◌then◌else◌, replicate, slice_index_or}
 use Rattle.hs_settled.proofs.AddingLemmas.{Ends, ends_so}
 use Rattle.hs_settled.proofs.CausesListLemmas.{range_all}
-use Rattle.hs_settled.proofs.SeatLemmas.{AreOwn, CopiesFrom, Seated, peers_in, seats_change_view, seats_each, seats_end}
+use Rattle.hs_settled.proofs.SeatLemmas.{AreOwn, CopiesFrom, Seated, peers_in, seats_end, seats_opening}
 use Rattle.hs_awaiting.specs.Words.{change_if, change_with, each}
 use Rattle.hs_core_words.specs.Changing.{add_entry_tasks, change_group, note, post, set_viewed}
 use Rattle.hs_core_words.specs.Looking.{group_of, lead_of, shape_of, shards_of, status_of}
@@ -207,15 +207,5 @@ module _ (shape : Shape) (limits : Limits) (found : Taken) (moment : ℕ) (peers
     rejoins = λ x. subst (λ r. CopiesFrom n r) (sym (same_each n None x)) tt;
   }
 
-  viewed_seats : Seated n Anyone (peers_in (begin_views new))
-  viewed_seats = seats_each n Anyone (shards_of new) change_view new (λ shard x q. seats_change_view n Anyone shard x q) new_seats
-
-  down_seats : (peer : ℕ) (x : Core) → Seated n Anyone (peers_in x) → Seated n Anyone (peers_in (note_if_down peer x))
-  down_seats peer x q = go (not (is_good_status (status_of peer x)))
-    where
-      go : (b : Bool) → Seated n Anyone (peers_in (change_if b (note who.Store deed.Nothing (reply.Down peer 0)) x))
-      go true = q
-      go false = q
-
   pub seats_first : Seated (shape.shards * shape.copies) (λ x. Unit {0}) (peers_in (open_core shape limits found moment))
-  seats_first = seats_end n Anyone noted (seats_each n Anyone (all_peers (shape_of (begin_views new))) note_if_down (begin_views new) (λ peer x q. down_seats peer x q) viewed_seats)
+  seats_first = seats_end n Anyone noted (seats_opening n Anyone new new_seats)

@@ -1,7 +1,7 @@
 -- Each single change of a core that stands keeps the rule of sweeps and of `done`.
 use Rattle.std.proofs.Common.{◌≡◌, sym, subst, inr, ℕ, ◌+◌, ◌<◌, ◌≤◌, List, length, Option, Some, IsSome, refl, true}
 use Rattle.hs_standing.specs.Changes.{IsBeside, IsIdle, told_at_once}
-use Rattle.hs_standing.specs.Walks.{Walks}
+use Rattle.hs_standing.specs.Walks.{Walks, WalksViews}
 use Rattle.hs_answered.specs.Telling.{Judging}
 use Rattle.hs_awaiting.specs.declared.wait.Wait.TheVariants as wait
 use Rattle.hs_awaiting.specs.declared.waiting.Waiting.{Waiting}
@@ -13,9 +13,10 @@ use Rattle.hs_core_words.specs.Looking.{catalogue_of, group_of, operation_of, sh
 use Rattle.hs_core_words.specs.Operating.{begin_line, go_on_with, propose_entry, resume}
 use Rattle.hs_core_words.specs.Seeing.{pointers_for}
 use Rattle.hs_core_words.specs.State.{Core}
+use Rattle.hs_core_words.specs.Views.{begin_view}
 use Rattle.hs_settled.proofs.GotLemmas.{got_rule}
 use Rattle.hs_settled.proofs.RuleLemmas.{Rule, rule_on, rule_refused, rule_same}
-use Rattle.hs_settled.proofs.SaidLemmas.{IsNoGot, IsPlain, again_told, effect_says, go_on_says, line_says, proposed_told, says_note}
+use Rattle.hs_settled.proofs.SaidLemmas.{IsNoGot, IsPlain, again_told, effect_says, go_on_says, line_says, proposed_told, says_note, view_told}
 use Rattle.hs_effects.proofs.SweepLemmas.{ByViews}
 use Rattle.hs_effects.specs.Taking.{folds_behind, taken}
 use Rattle.hs_entry.specs.declared.entry.Entry.{Entry}
@@ -27,11 +28,13 @@ use Rattle.hs_journal.specs.declared.entry.Who.TheVariants as who
 use Rattle.hs_journal.specs.Events.{client_op}
 use Rattle.hs_laws.specs.Valid.{IsValid}
 use Rattle.hs_standing.proofs.Laws.{Entries, Steps}
+use Rattle.hs_standing.proofs.LegalOpenLemmas.{standing_opens}
 use Rattle.hs_standing.proofs.StandingLemmas.{line_beside, standing_again, standing_beside, standing_downed, standing_due, standing_effect, standing_goes, standing_line, standing_refused, standing_round, standing_told, tell_beside}
 use Rattle.hs_standing.specs.Bytes.{TellsItsBlock}
 use Rattle.hs_standing.specs.Commands.{AreCommanded, IsLineOf, IsNobodys}
 use Rattle.hs_standing.specs.Legal.{IsStanding}
 use Rattle.hs_limits.specs.declared.delta.Delta.{Delta}
+use Rattle.hs_limits.specs.declared.shape.Shape.{Shape}
 use Rattle.hs_model.specs.declared.deed.Deed.TheVariants as deed
 use Rattle.hs_model.specs.declared.op.Op.{Op}
 use Rattle.hs_model.specs.declared.reply.Reply.{Reply}
@@ -104,6 +107,13 @@ module _ (blocks : Blocks) (given : Given) (views : ByViews) (steps : Steps) (la
               (go_on_says by.commands (λ v o. bytes_step v bytes (pointers_for w.shard w.operation.op c) o) line c (client line)) its.tells.answered s.rule;
         }
 
+    swept_view : (shard : ℕ) → shard < (shape_of c).shards → IsSweeping by start (begin_view shard c)
+    swept_view shard low = record {
+      cs = s.cs;
+      stands = standing_opens by shard c start s.cs s.stands low;
+      rule = rule_same by start c (begin_view shard c) (view_told shard c) s.rule;
+    }
+
     swept_due : (shard : ℕ) → shard < (shape_of c).shards → is_enter_due shard c ≡ true → IsSweeping by start (propose_entry shard (kind.Enter 0 ((catalogue_of shard c).epoch + 1)) c)
     swept_due shard low due = record {
       cs = s.cs;
@@ -154,6 +164,9 @@ module _ (blocks : Blocks) (given : Given) (views : ByViews) (steps : Steps) (la
           record { cs = folds_behind by.name s.cs shard entry c; stands = its; rule = effect_rule entry leads few its }
 
   -- ---- so every event keeps it
+
+  pub views_sweeping : (shape : Shape) → WalksViews shape (λ c. IsSweeping by start c)
+  views_sweeping shape = λ shard c same low more s. swept_view c s shard low
 
   pub walks_sweeping : Walks (λ line o c. IsLineOf by c line o) (TellsItsBlock by start) (IsNobodys by) (λ c. IsSweeping by start c)
   walks_sweeping = record {

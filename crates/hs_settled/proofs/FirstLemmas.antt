@@ -6,9 +6,10 @@ use Rattle.std.specs.List.{AllByRecursion, list_all}
 use Rattle.std.specs.Map.{lookup}
 use Rattle.std.specs.Ordering.{nat_cmp}
 use Rattle.std.specs.Prelude.{if◌then◌else◌, nat_le}
-use Rattle.hs_standing.proofs.AlongWalkLemmas.{walks_step}
+use Rattle.hs_standing.proofs.AlongWalkLemmas.{along as along_events, copies_step, walks_step}
 use Rattle.hs_standing.specs.Changes.{IsBeside, tells_at_once, told_at_once}
-use Rattle.hs_standing.specs.Walks.{MayEvent, Walks}
+use Rattle.hs_standing.specs.Copies.{AllComeOn}
+use Rattle.hs_standing.specs.Walks.{MayEvent, MayReport, Walks, WalksViews}
 use Rattle.hs_awaiting.specs.declared.wait.Wait.TheVariants as wait
 use Rattle.hs_awaiting.specs.declared.waiting.Waiting.{Waiting}
 use Rattle.hs_awaiting.specs.Words.{change_if, change_with}
@@ -28,12 +29,14 @@ use Rattle.hs_core_words.specs.Views.{begin_view}
 use Rattle.hs_settled.proofs.RuleLemmas.{all_front}
 use Rattle.hs_settled.proofs.DeletesRunLemmas.{Running, steps_ended}
 use Rattle.hs_settled.proofs.SaidLemmas.{Says, again_told, more_told, proposed_told, same_told, says_nothing, says_note, view_told}
+use Rattle.hs_desk.specs.declared.done.Done.{Done}
 use Rattle.hs_desk.specs.declared.done.Done.TheVariants as done
 use Rattle.hs_desk.specs.declared.fault.CoreFault.{CoreFault}
 use Rattle.hs_desk.specs.declared.what.What.{What}
 use Rattle.hs_desk.specs.declared.what.What.TheVariants as what
-use Rattle.hs_effects.proofs.EventLemmas.{none_wait}
-use Rattle.hs_effects.specs.Logged.{HasAsked, IsCalled, IsNewLine, IsOrderly, asked_by}
+use Rattle.hs_effects.proofs.EventLemmas.{none_wait, open_orderly}
+use Rattle.hs_effects.proofs.ViewLemmas.{view_began}
+use Rattle.hs_effects.specs.Logged.{HasAsked, IsCalled, IsNewLine, IsOrderly, MayBegin, asked_by}
 use Rattle.hs_effects.specs.Taking.{done_by, taken}
 use Rattle.hs_entry.specs.declared.entry.Entry.{Entry}
 use Rattle.hs_entry.specs.declared.entry.Entry.TheVariants as kind
@@ -71,7 +74,8 @@ use Rattle.hs_standing.proofs.FirstLemmas.{KeepsFirst, first_held}
 use Rattle.hs_standing.specs.Run.{IsRunning, MayRun, RunOpens}
 use Rattle.hs_standing.specs.Standing.{AllMayKeep, MayKeep}
 use Rattle.hs_standing.specs.Start.{Start}
-use Rattle.hs_told.specs.InTurn.{told_of}
+use Rattle.hs_told.proofs.OpenedLemmas.{opened_turn}
+use Rattle.hs_told.specs.InTurn.{IsInTurn, told_of}
 use Rattle.hs_tokens.specs.Seats.{Seats}
 use Rattle.std.specs.Option.{option_map}
 
@@ -292,6 +296,20 @@ module _ (name : List ℕ → Address) where
       own_again : (back shard : ℕ) (c : Core) → NoneOwn c → NoneOwn (send_round back shard c)
       own_again back shard c its = own_same c (send_round back shard c) ((again_alike back shard c).waiting 0) its
 
+-- ---- a view begins
+
+view_own : (shard : ℕ) (c : Core) → NoneOwn c → NoneOwn (begin_view shard c)
+view_own shard c its place epoch at =
+    each_viewed shard c (λ k n x. k ≡ 0 → (e : ℕ) → x ≡ kind.Enter 0 e → ⊥) (λ zero_is e is. cc is)
+    (λ k p x there zero_is e is. its p e (subst (λ (j : ℕ). slice_get (group_of j c).waiting p ≡ Some (kind.Enter 0 e)) zero_is (there ∙ ap (λ (y : Entry). Some y) is)))
+    0 place (kind.Enter 0 epoch) at refl epoch refl
+
+views_told : (shard : ℕ) (c : Core) → NoneFirst c → NoneFirst (begin_view shard c)
+views_told shard c none = subst (λ (es : List JournalEntry). AllByRecursion IsNoFirst es) (sym (view_told shard c)) none
+
+views_ask : (name : List ℕ → Address) (shape : Shape) → WalksViews shape (λ c. Asked name c)
+views_ask name shape = λ shard c same low more q. record { orderly = view_began name shard c q.orderly; own = view_own shard c q.own; none = views_told shard c q.none }
+
 -- ---- as a core opens
 
 record Opened (c : Core) : Type 0 where
@@ -308,17 +326,8 @@ keeps_opened = record {
     own = q.own;
     none = tells_on c (note who.Store deed.Nothing (reply.Down peer 0) c) (says_note IsNoFirst who.Store deed.Nothing (reply.Down peer 0) c (λ epoch is did. cc is)) q.none;
   };
-  views = λ shard c low none q. record {
-    own = view_own shard c q.own;
-    none = subst (λ (es : List JournalEntry). AllByRecursion IsNoFirst es) (sym (view_told shard c)) q.none;
-  };
+  views = λ shard c low none q. record { own = view_own shard c q.own; none = views_told shard c q.none };
 }
-  where
-    view_own : (shard : ℕ) (c : Core) → NoneOwn c → NoneOwn (begin_view shard c)
-    view_own shard c its place epoch at =
-        each_viewed shard c (λ k n x. k ≡ 0 → (e : ℕ) → x ≡ kind.Enter 0 e → ⊥) (λ zero_is e is. cc is)
-        (λ k p x there zero_is e is. its p e (subst (λ (j : ℕ). slice_get (group_of j c).waiting p ≡ Some (kind.Enter 0 e)) zero_is (there ∙ ap (λ (y : Entry). Some y) is)))
-        0 place (kind.Enter 0 epoch) at refl epoch refl
 
 module _ (name : List ℕ → Address) (shape : Shape) (limits : Limits) (taken : Taken) (moment : ℕ) where
   new_own : NoneOwn (new_core shape limits taken moment)
@@ -330,6 +339,55 @@ module _ (name : List ℕ → Address) (shape : Shape) (limits : Limits) (taken 
 
   opened_first : Opened (open_core shape limits taken moment)
   opened_first = first_held Opened keeps_opened shape limits taken moment (record { own = new_own; none = tt })
+
+-- ---- along events, for any number of copies
+
+ask_report : (peer : ℕ) (d : Done) (c : Core) → MayReport (λ number bytes w x. Unit {0}) peer d c
+ask_report peer (done.Bytes number bytes) c = λ w r. tt
+ask_report peer (done.Gone number) c = λ w r. tt
+ask_report peer (done.Stored number) c = tt
+ask_report peer (done.Sealed number) c = tt
+ask_report peer done.Emptied c = tt
+ask_report peer (done.Copied number) c = tt
+ask_report peer (done.Stepped switched) c = tt
+ask_report peer (done.Failed disk) c = tt
+
+ask_begin : (name : List ℕ → Address) (e : Event) (c : Core) → MayBegin name e c → MayEvent (MayAsk name) (λ number bytes w x. Unit {0}) (λ line. Unit {0}) e c
+ask_begin name (event.Line line o) c may = may
+ask_begin name (event.Report peer d) c may = ask_report peer d c
+ask_begin name (event.Turn line peer) c may = tt
+ask_begin name (event.Deliver line number) c may = tt
+ask_begin name (event.Lose line number) c may = tt
+ask_begin name (event.Repeat line number) c may = tt
+ask_begin name (event.Nudge line peer) c may = tt
+ask_begin name (event.Fail line peer) c may = tt
+ask_begin name (event.Start line peer) c may = tt
+
+module _ (name : List ℕ → Address) (shape : Shape) (limits : Limits) (taken : Taken) (moment : ℕ) where
+  abbrev opened : Core
+  opened = open_core shape limits taken moment
+
+  turn : IsInTurn (λ n. None) (open_core shape limits taken moment)
+  turn = opened_turn (λ n. None) shape limits taken moment refl
+
+  all_asked : (es : Events) → AllComeOn (MayBegin name) opened es → NoneFirst (steps opened es)
+  all_asked es may = go opened.ended refl
+    where
+      first : Opened (open_core shape limits taken moment)
+      first = opened_first name shape limits taken moment
+
+      go : (o : Option CoreFault) → opened.ended ≡ o → NoneFirst (steps opened es)
+      go (Some fault) over = subst (λ (x : Core). NoneFirst x) (sym (steps_ended opened es fault over)) first.none
+      go None going =
+          let last : Asked name (steps opened es) =
+          along_events (MayBegin name) (λ c. Asked name c) (λ e at c on none quiet comes q. copies_step (asks name) c (views_ask name (shape_of c)) e at on comes.seated comes.known comes.room none (ask_begin name e c comes.may) q)
+          es opened (turn.going going) turn.told may (record { orderly = open_orderly name shape limits taken moment; own = first.own; none = first.none }) in
+          last.none
+
+  pub copies_told : (es : Events) → AllComeOn (MayBegin name) (open_core shape limits taken moment) es → AllByRecursion IsNoFirst (told_of (steps (open_core shape limits taken moment) es))
+  copies_told es may =
+      let last : Core = steps opened es in
+      all_front IsNoFirst (told_of last) last.entries (all_asked es may)
 
 -- ---- along a run
 

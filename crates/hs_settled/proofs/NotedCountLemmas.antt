@@ -2,21 +2,16 @@
 use Rattle.std.proofs.Common.{◌≡◌, ◌∙◌, sym, ap, subst, ℕ, ◌+◌, ◌==◌, ◌&&◌, Bool, true, false, cond, drop, length, List, [], ◌∷◌, ◌++◌, Option, Some, None, refl, arith}
 use Rattle.std.proofs.lemmas.List.Sums.{sum_by-append, sum_by_push}
 use Rattle.std.specs.Option.{option_map, option_map_or}
-use Rattle.hs_answered.proofs.RefusalLemmas.{IsOfKind, first_is}
 use Rattle.hs_awaiting.specs.Words.{change_if, change_with}
-use Rattle.hs_core_words.specs.Asking.{deliver, lose, no_peer, not_down, not_up, nudge_good, send_again, unless_refused}
-use Rattle.hs_core_words.specs.Changing.{change_pool, note, post, refuse, set_tasks}
+use Rattle.hs_core_words.specs.Changing.{change_pool, note, refuse, set_tasks}
 use Rattle.hs_core_words.specs.declared.event.Event.{Event}
 use Rattle.hs_core_words.specs.declared.event.Event.TheVariants as event
 use Rattle.hs_core_words.specs.declared.task.Task.{Task}
-use Rattle.hs_core_words.specs.Failing.{go_down}
-use Rattle.hs_core_words.specs.Joining.{start}
 use Rattle.hs_core_words.specs.Looking.{first_task, shape_of, tasks_of}
 use Rattle.hs_core_words.specs.Reporting.{on_report, take_report}
 use Rattle.hs_core_words.specs.State.{Core}
 use Rattle.hs_core_words.specs.Step.{begin_event, do_event, line_of, step}
 use Rattle.hs_desk.specs.Answers.{answers}
-use Rattle.hs_desk.specs.declared.done.Done.{Done}
 use Rattle.hs_desk.specs.declared.done.Done.TheVariants as done
 use Rattle.hs_events.specs.Due.{is_answer}
 use Rattle.hs_events.specs.Reports.{costs, failures}
@@ -28,16 +23,13 @@ use Rattle.hs_model.specs.declared.command.Command.{Command}
 use Rattle.hs_model.specs.declared.deed.Deed.TheVariants as deed
 use Rattle.hs_model.specs.declared.reply.Reply.{Reply}
 use Rattle.hs_model.specs.declared.reply.Reply.TheVariants as reply
-use Rattle.hs_model.specs.Refusals.{refused_when}
-use Rattle.hs_settled.proofs.AsideLemmas.{aside_post}
-use Rattle.hs_settled.proofs.CalmLemmas.{IsNoNote}
-use Rattle.hs_settled.proofs.NotedEventLemmas.{by_message, by_rows, step_noted}
+use Rattle.hs_settled.proofs.CalmLemmas.{IsNoNote, refusal_tells}
+use Rattle.hs_settled.proofs.NotedEventLemmas.{step_noted}
 use Rattle.hs_settled.proofs.RefusalLemmas.{at_first, before_is, clean, ended_told, runs}
-use Rattle.hs_settled.proofs.NotedWalkLemmas.{Tells, stays_deliver, stays_down, stays_fail, stays_line, stays_lose, stays_nudge, stays_report, stays_start}
+use Rattle.hs_settled.proofs.NotedWalkLemmas.{Tells, stays_fail, tells_event}
 use Rattle.hs_settled.specs.Noted.{AllAnswer, AllAreOwn, IsAnswering, IsNoted}
 use Rattle.hs_ops.specs.Answers.{deed_of}
-use Rattle.hs_post.specs.declared.message.Message.{Message}
-use Rattle.hs_post.specs.Pool.{is_full, restart_numbers}
+use Rattle.hs_post.specs.Pool.{restart_numbers}
 use Rattle.hs_told.specs.InTurn.{after_all, told_of}
 
 -- ---- counting
@@ -86,42 +78,13 @@ module _ (shape : Shape) (disk n : ℕ) (before : List JournalEntry) where
   refused_counts : (line : ℕ) (r : Reply) (c : Core) → IsNoNote r → Counts shape disk n before c → Counts shape disk n before (refuse line r c)
   refused_counts line r c none p = more c (record { who = who.Line line; moment = c.moment; deed = deed.Nothing; reply = r }) none p
 
-  when_told : (b : Bool) (r : Reply) → IsNoNote r → IsOfKind IsNoNote (refused_when b r)
-  when_told true r e = e
-  when_told false r e = tt
-
-  told_row : (x : Option Reply) (r : Reply) → IsOfKind IsNoNote x → x ≡ Some r → IsNoNote r
-  told_row x r h e = subst (λ y. IsOfKind IsNoNote y) e h
-
-  again_counts : (line : ℕ) (m : Message) (c : Core) → Counts shape disk n before c → Counts shape disk n before (send_again line m c)
-  again_counts line m c p = go (is_full c.pool)
-    where
-      go : (b : Bool) → Counts shape disk n before (cond b (refuse line (reply.PoolFull c.pool.limit) c) (post (m ∷ []) c))
-      go true = refused_counts line (reply.PoolFull c.pool.limit) c refl p
-      go false = counts_tells.beside c (post (m ∷ []) c) (aside_post (m ∷ []) c) p
-
   abbrev C : Core → Type 0
   C c = Counts shape disk n before c
 
-  up_counts : (line peer : ℕ) (f : Core → Core) (c : Core) → C c → C (f c) → C (unless_refused line (no_peer peer c ∷ not_up peer c ∷ []) f c)
-  up_counts line peer f c p q = by_rows C line (no_peer peer c ∷ not_up peer c ∷ []) f c
-      (λ r e. refused_counts line r c (told_row _ r (first_is IsNoNote (no_peer peer c ∷ not_up peer c ∷ []) (when_told _ (reply.NoPeer peer) refl, (when_told _ (reply.NotUp peer) refl, tt))) e) p) q
-
-  down_counts : (line peer : ℕ) (f : Core → Core) (c : Core) → C c → C (f c) → C (unless_refused line (no_peer peer c ∷ not_down peer c ∷ []) f c)
-  down_counts line peer f c p q = by_rows C line (no_peer peer c ∷ not_down peer c ∷ []) f c
-      (λ r e. refused_counts line r c (told_row _ r (first_is IsNoNote (no_peer peer c ∷ not_down peer c ∷ []) (when_told _ (reply.NoPeer peer) refl, (when_told _ (reply.NotDown peer) refl, tt))) e) p) q
-
   -- whatever an event does that reports no failure
   other_counts : (e : Event) (c : Core) → ((peer failed : ℕ) → e ≡ event.Report peer (done.Failed failed) → ⊥) → C c → C (do_event e c)
-  other_counts (event.Line line o) c none p = stays_line counts_tells line o c (record { groups = p.groups; journal = p.journal; refused = p.refused; count = p.count })
-  other_counts (event.Report peer d) c none p = stays_report counts_tells peer d c (λ failed is x q. absurd (none peer failed (ap (λ (y : Done). event.Report peer y) is))) p
-  other_counts (event.Turn line peer) c none p = up_counts line peer (λ x. x) c p p
-  other_counts (event.Deliver line number) c none p = by_message C line number (deliver number) c (λ e. refused_counts line (reply.NoMessage number) c refl p) (λ m e. stays_deliver counts_tells number m c p)
-  other_counts (event.Lose line number) c none p = by_message C line number (lose number) c (λ e. refused_counts line (reply.NoMessage number) c refl p) (λ m e. stays_lose counts_tells number m c p)
-  other_counts (event.Repeat line number) c none p = by_message C line number (send_again line) c (λ e. refused_counts line (reply.NoMessage number) c refl p) (λ m e. again_counts line m c p)
-  other_counts (event.Nudge line peer) c none p = up_counts line peer (nudge_good peer) c p (stays_nudge counts_tells peer c p)
-  other_counts (event.Fail line peer) c none p = up_counts line peer (go_down peer) c p (stays_down counts_tells peer c p)
-  other_counts (event.Start line peer) c none p = down_counts line peer (start peer) c p (stays_start counts_tells peer c p)
+  other_counts e c none p = tells_event counts_tells e c (λ line o is. record { groups = p.groups; journal = p.journal; refused = p.refused; count = p.count })
+      (λ r why. refused_counts (line_of e) r c (refusal_tells e c r why) p) (λ by disk is x q. absurd (none by disk is)) p
 
 -- a report of a failure is told, where it answers the peer's first job
 failed_counts : (shape : Shape) (disk n : ℕ) (before : List JournalEntry) (peer failed : ℕ) (c : Core) → is_answer c peer (done.Failed failed) ≡ true → Counts shape disk n before c

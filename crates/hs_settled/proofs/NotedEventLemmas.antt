@@ -2,19 +2,17 @@
 use Rattle.std.proofs.Common.{◌≡◌, ◌∙◌, sym, ap, subst, ◌⊎◌, inl, inr, ℕ, ◌+◌, ◌*◌, ◌<◌, ◌≤◌, ◌==◌, Bool, true, false, cond, List, [], ◌∷◌, length, Option, Some, None, IsSome, refl, arith, is_none, nat_le, nat_lt}
 use Rattle.std.proofs.lemmas.Bool.{eqb-true, leb-false, leb-true}
 use Rattle.std.specs.List.{AllByRecursion}
-use Rattle.hs_awaiting.specs.declared.wait.Wait.TheVariants as wait
+use Rattle.hs_model.specs.declared.op.Op.{Op}
+use Rattle.hs_anatomy.specs.Strokes.{added, new_waiting}
 use Rattle.hs_awaiting.specs.declared.waiting.Waiting.{Waiting}
 use Rattle.hs_awaiting.specs.Words.{change_if}
-use Rattle.hs_core_words.specs.Asking.{deliver, lose, no_peer, not_down, not_up, nudge_good, send_again, unless_refused, with_message}
-use Rattle.hs_core_words.specs.Changing.{change_pool, post, refuse}
+use Rattle.hs_core_words.specs.Asking.{no_peer, unless_refused, with_message}
+use Rattle.hs_core_words.specs.Changing.{change_pool, refuse}
 use Rattle.hs_core_words.specs.declared.event.Event.{Event}
 use Rattle.hs_core_words.specs.declared.event.Event.TheVariants as event
-use Rattle.hs_core_words.specs.Failing.{go_down}
-use Rattle.hs_core_words.specs.Joining.{start}
 use Rattle.hs_core_words.specs.Looking.{operation_of, shape_of}
 use Rattle.hs_core_words.specs.State.{Core}
 use Rattle.hs_core_words.specs.Step.{begin_event, do_event, end_event, keep_entries, line_of, refuse_entries, run_event, step}
-use Rattle.hs_desk.specs.declared.done.Done.{Done}
 use Rattle.hs_desk.specs.declared.fault.CoreFault.{CoreFault}
 use Rattle.hs_desk.specs.declared.fault.CoreFault.TheVariants as fault
 use Rattle.hs_journal.specs.declared.entry.JournalEntry.{JournalEntry}
@@ -29,12 +27,9 @@ use Rattle.hs_model.specs.declared.deed.Deed.TheVariants as deed
 use Rattle.hs_model.specs.declared.reply.Reply.{Reply}
 use Rattle.hs_model.specs.declared.reply.Reply.TheVariants as reply
 use Rattle.hs_model.specs.Refusals.{first, refused_when}
-use Rattle.hs_settled.proofs.AsideLemmas.{aside_post}
 use Rattle.hs_settled.proofs.NotingLemmas.{During, all_append, all_later, during_tells, on_aside, on_begin, on_down, on_note}
-use Rattle.hs_settled.proofs.NotedWalkLemmas.{stays_deliver, stays_down, stays_line, stays_lose, stays_nudge, stays_report, stays_start}
+use Rattle.hs_settled.proofs.NotedWalkLemmas.{tells_event}
 use Rattle.hs_settled.specs.Noted.{AllAreOwn, IsNoted, IsOfPeer, IsOwnEvent, StandsFor, command_in}
-use Rattle.hs_ops.specs.Operations.{new_operation}
-use Rattle.hs_ops.specs.Speaking.{judging_shard}
 use Rattle.hs_post.specs.declared.message.Message.{Message}
 use Rattle.hs_post.specs.Pool.{is_full, message_at, restart_numbers}
 use Rattle.hs_told.proofs.OrderLemmas.{same_refusal}
@@ -142,37 +137,29 @@ module _ (commands : ℕ → Option Command) (shape : Shape) (limits : Limits) (
   MayHere (event.Fail line peer) c = (line ≤ last) × ((refusal_in (event.Fail line peer) c ≡ None) ⊎ (commands line ≡ Some (command.Fail peer)))
   MayHere (event.Start line peer) c = (line ≤ last) × ((refusal_in (event.Start line peer) c ≡ None) ⊎ (commands line ≡ Some (command.Start peer)))
 
-  again_stays : (line number : ℕ) (c : Core) (m : Message) → message_at number c.pool ≡ Some m → (line ≤ last) × ((refusal_in (event.Repeat line number) c ≡ None) ⊎ (commands line ≡ Some (command.Repeat number))) → D c → D (send_again line m c)
-  again_stays line number c m at may p = go (is_full c.pool) refl
-    where
-      go : (b : Bool) → is_full c.pool ≡ b → D (cond b (refuse line (reply.PoolFull c.pool.limit) c) (post (m ∷ []) c))
-      go true full = refusing commands shape limits last c p (event.Repeat line number) may.0 may.1 (reply.PoolFull c.pool.limit)
-          (ap (λ o. repeat_refusal number c o) at ∙ ap (λ b. cond b (Some (reply.PoolFull c.pool.limit)) None) full)
-      go false free = on_aside commands shape limits last c (post (m ∷ []) c) (aside_post (m ∷ []) c) p
-
   upto : (n : ℕ) → n ≡ last → n ≤ last
   upto n e = omega (arith, e)
 
+  -- a line that is refused is its own command's
+  may_refuse : (e : Event) (c : Core) → MayHere e c → (r : Reply) → refusal_in e c ≡ Some r → (line_of e ≤ last) × ((refusal_in e c ≡ None) ⊎ (commands (line_of e) ≡ command_in e))
+  may_refuse (event.Line line o) c may r why = absurd (cc why)
+  may_refuse (event.Report peer d) c may r why = absurd (cc why)
+  may_refuse (event.Turn line peer) c may r why = may
+  may_refuse (event.Deliver line number) c may r why = may
+  may_refuse (event.Lose line number) c may r why = may
+  may_refuse (event.Repeat line number) c may r why = may
+  may_refuse (event.Nudge line peer) c may r why = may
+  may_refuse (event.Fail line peer) c may r why = may
+  may_refuse (event.Start line peer) c may r why = may
+
   done_stays : (e : Event) (c : Core) → MayHere e c → D c → D (do_event e c)
-  done_stays (event.Line line o) c may p = stays_line (during_tells commands shape limits last) line o c
-      (on_begin commands shape limits last line (record { operation = new_operation line o; shard = judging_shard (shape_of c).shards c.sessions o; wait = wait.View }) (record c { progress = record c.progress { last_line = line } }) may
-      (on_aside commands shape limits last c (record c { progress = record c.progress { last_line = line } }) (record { limits = refl; shape = refl; groups = refl; peers = refl; pool = refl; line = refl; operations = refl; journal = refl; refused = refl; entries = refl }) p))
-  done_stays (event.Report peer d) c may p = stays_report (during_tells commands shape limits last) peer d c
-      (λ disk is x q. on_down commands shape limits last disk x.progress.event_line x (subst (λ (y : Done). IsOfPeer shape y) is may) (upto x.progress.event_line q.line) q) p
-  done_stays (event.Turn line peer) c may p = by_rows D line (no_peer peer c ∷ not_up peer c ∷ []) (λ x. x) c
-      (λ r s. refusing commands shape limits last c p (event.Turn line peer) may.0 may.1 r s) p
-  done_stays (event.Deliver line number) c may p = by_message D line number (deliver number) c
-      (λ e. refusing commands shape limits last c p (event.Deliver line number) may.0 may.1 (reply.NoMessage number) (ap (λ o. message_refusal number o) e)) (λ m e. stays_deliver (during_tells commands shape limits last) number m c p)
-  done_stays (event.Lose line number) c may p = by_message D line number (lose number) c
-      (λ e. refusing commands shape limits last c p (event.Lose line number) may.0 may.1 (reply.NoMessage number) (ap (λ o. message_refusal number o) e)) (λ m e. stays_lose (during_tells commands shape limits last) number m c p)
-  done_stays (event.Repeat line number) c may p = by_message D line number (send_again line) c
-      (λ e. refusing commands shape limits last c p (event.Repeat line number) may.0 may.1 (reply.NoMessage number) (ap (λ o. repeat_refusal number c o) e)) (λ m e. again_stays line number c m e may p)
-  done_stays (event.Nudge line peer) c may p = by_rows D line (no_peer peer c ∷ not_up peer c ∷ []) (nudge_good peer) c
-      (λ r s. refusing commands shape limits last c p (event.Nudge line peer) may.0 may.1 r s) (stays_nudge (during_tells commands shape limits last) peer c p)
-  done_stays (event.Fail line peer) c may p = by_rows D line (no_peer peer c ∷ not_up peer c ∷ []) (go_down peer) c
-      (λ r s. refusing commands shape limits last c p (event.Fail line peer) may.0 may.1 r s) (stays_down (during_tells commands shape limits last) peer c p)
-  done_stays (event.Start line peer) c may p = by_rows D line (no_peer peer c ∷ not_down peer c ∷ []) (start peer) c
-      (λ r s. refusing commands shape limits last c p (event.Start line peer) may.0 may.1 r s) (stays_start (during_tells commands shape limits last) peer c p)
+  done_stays e c may p = tells_event (during_tells commands shape limits last) e c begins
+      (λ r why. let m = may_refuse e c may r why in refusing commands shape limits last c p e m.0 m.1 r why)
+      (λ by disk is x q. on_down commands shape limits last disk x.progress.event_line x (subst (λ (y : Event). MayHere y c) is may) (upto x.progress.event_line q.line) q) p
+    where
+      begins : (line : ℕ) (o : Op) → e ≡ event.Line line o → D (added line o c)
+      begins line o is = on_begin commands shape limits last line (new_waiting line o c) (record c { progress = record c.progress { last_line = line } }) (subst (λ (y : Event). MayHere y c) is may)
+          (on_aside commands shape limits last c (record c { progress = record c.progress { last_line = line } }) (record { limits = refl; shape = refl; groups = refl; peers = refl; pool = refl; line = refl; operations = refl; journal = refl; refused = refl; entries = refl }) p)
 
 -- ---- an event ends
 

@@ -1,9 +1,12 @@
 -- In the words of the promise.
-use Rattle.std.proofs.Common.{◌≡◌, ◌∙◌, sym, ap, subst, ℕ, ◌+◌, List, Some}
+use Rattle.std.proofs.Common.{◌≡◌, ◌∙◌, sym, ap, subst, ℕ, ◌+◌, List, [], Some}
+use Rattle.hs_answered.specs.Standing.{store_with}
 use Rattle.hs_answered.specs.Telling.{Judging}
 use Rattle.hs_core_words.specs.State.{Core}
 use Rattle.hs_core_words.specs.Opening.{Taken, open_core}
-use Rattle.hs_settled.proofs.DeletesRunLemmas.{steps_ended}
+use Rattle.hs_fold.specs.Runs.Facts.{Catalogue as Folded}
+use Rattle.hs_settled.proofs.DeletesEventLemmas.{LawsBelow}
+use Rattle.hs_settled.proofs.DeletesRunLemmas.{opened_copies_delete, steps_ended}
 use Rattle.hs_settled.specs.Deletion.{TellsDeletion}
 use Rattle.hs_desk.specs.declared.fault.CoreFault.{CoreFault}
 use Rattle.hs_events.specs.Course.{steps}
@@ -17,6 +20,10 @@ use Rattle.hs_promise.specs.Deletes.{Deletes, EndsRun, IsDoneAt}
 use Rattle.hs_promise.specs.Machine.{NeverOpened, Went}
 use Rattle.hs_promise.specs.Run.{Ran, Script}
 use Rattle.hs_promise.specs.Story.{Story, all_events, last_core}
+use Rattle.hs_standing.specs.Copies.{AllComeOn}
+use Rattle.hs_standing.specs.Held.{GivesAddresses}
+use Rattle.hs_standing.specs.Legal.{MayStand}
+use Rattle.hs_standing.specs.Opens.{MayOpen}
 use Rattle.hs_standing.specs.Run.{MayRun, RunOpens}
 use Rattle.hs_standing.specs.Standing.{AllMayKeep, judging_of}
 use Rattle.hs_standing.specs.Start.{Start}
@@ -69,6 +76,15 @@ run_promised keeps S entry r story went opens may =
   where
     told : TellsDeletion (judging S) entry (last_core S story)
     told = keeps (record { set = S.set; commands = S.commands; entry = entry }) story.found (all_events story) opens may
+
+-- with any number of copies
+pub copies_promised : LawsBelow → (S : Script) (cs : List Folded) (r : Ran) (story : Story) → Went S r story → GivesAddresses S.set.name → MayOpen (judging S) S.set.shape (opens_with S.set story.found) story.found.opened cs
+    → AllComeOn (MayStand (judging S) (store_with cs [])) (first_core S.set story.found) (all_events story) → Deletes S (store_with cs []) r
+copies_promised below S cs r story went names may come =
+    deletes_of S (store_with cs []) r (subst (λ (es : List JournalEntry). AreSwept (judging S) (store_with cs []) es) (sym went.journal) told.journal)
+  where
+    told : TellsDeletion (judging S) (store_with cs []) (last_core S story)
+    told = opened_copies_delete below (judging S) names S.set.shape (opens_with S.set story.found) story.found.opened cs may (all_events story) come
 
 -- its core ended as it opened
 pub ended_promised : OpensSo → (S : Script) (entry : Store) (r : Ran) (story : Story) (fault : CoreFault) → Went S r story → (first_core S.set story.found).ended ≡ Some fault → Deletes S entry r

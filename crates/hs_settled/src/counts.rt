@@ -1,5 +1,5 @@
 //! What the counts of a core are worth, behind each event.
-ghost use Rattle.std.specs.Prelude.{ℕ, List, take};
+ghost use Rattle.std.specs.Prelude.{◌≡◌, ℕ, List, [], take};
 ghost use Rattle.hs_answered.specs.Telling.{Judging};
 ghost use Rattle.hs_core_words.specs.State.{Core};
 ghost use Rattle.hs_settled.specs.Counts.{CountsRight};
@@ -8,7 +8,10 @@ ghost use Rattle.hs_events.specs.Due.{Events};
 ghost use Rattle.hs_events.specs.Found.{Found, first_core};
 ghost use Rattle.hs_events.specs.Whole.{Whole};
 ghost use Rattle.hs_fold.specs.Runs.Facts.{Catalogue as Folded};
-ghost use Rattle.hs_standing.specs.Legal.{IsStanding};
+ghost use Rattle.hs_laws.specs.Valid.{IsValid};
+ghost use Rattle.hs_standing.specs.Copies.{AllComeOn};
+ghost use Rattle.hs_standing.specs.Held.{GivesAddresses};
+ghost use Rattle.hs_standing.specs.Legal.{IsStanding, MayStand};
 ghost use Rattle.hs_model.specs.Store.{Store};
 ghost use Rattle.hs_standing.specs.Run.{IsRunning, MayRun, RunOpens};
 ghost use Rattle.hs_standing.specs.Standing.{AllMayKeep};
@@ -26,13 +29,20 @@ use hs_standing::{a_run_goes_on, each_event_is_told};
 /// epoch; and where a shard completes the last round of a run, each of its blocks that is older and out
 /// of reach is a zero block (`stands`). So it is of each core of a run over sound lists: behind each
 /// front of any events that may come, from a state of the run on (`events`) or from opening on (`run`),
-/// also where the core has ended with one of them.
+/// also where the core has ended with one of them. With any number of copies so is each core behind
+/// events that may come to one that stands, as long as the core goes on with its seats, what is known
+/// of copies is within their lists, and the root records and the Roots that wait are few (`copies`).
 pub fn each_core_of_a_run_counts_right()
     ensures stands { (by : Judging) (start : Store) (core : Core) (cs : List Folded)
         → IsStanding by start core cs → CountsRight by.name core }
     ensures events { (start : Start) (c : Whole) (events : Events)
         → IsRunning start c → AllMayKeep start (MayRun start) c.core events →
         (n : ℕ) → CountsRight start.set.name (steps c.core (take n events)) }
+    ensures copies { (by : Judging) (start : Store) (core : Core) (events : Events)
+        (cs : List Folded)
+        → GivesAddresses by.name → IsValid start → core.refused ≡ [] → core.entries ≡ []
+        → AllComeOn (MayStand by start) core events → IsStanding by start core cs →
+        (n : ℕ) → CountsRight by.name (steps core (take n events)) }
     ensures run { (start : Start) (found : Found) (events : Events)
         → RunOpens start found
         → AllMayKeep start (MayRun start) (first_core start.set found) events →

@@ -1,17 +1,18 @@
 //! What a core tells of deletions, as it opens, behind each event, and along a run.
-ghost use Rattle.std.specs.Prelude.{◌≡◌, ℕ, List, [], take};
+ghost use Rattle.std.specs.Prelude.{◌≡◌, ℕ, List, [], None, take};
 ghost use Rattle.hs_standing.specs.Walks.{HasRecordRoom};
 ghost use Rattle.hs_answered.specs.Telling.{Judging};
 ghost use Rattle.hs_core_words.specs.declared.event.Event.{Event};
 ghost use Rattle.hs_core_words.specs.Opening.{Taken, open_core};
+ghost use Rattle.hs_core_words.specs.State.{Core};
 ghost use Rattle.hs_core_words.specs.Step.{step};
 ghost use Rattle.hs_settled.specs.Deletion.{TellsDeletion};
 ghost use Rattle.hs_events.specs.Course.{steps};
 ghost use Rattle.hs_events.specs.Due.{Events};
 ghost use Rattle.hs_events.specs.Found.{Found, first_core};
-ghost use Rattle.hs_events.specs.Sane.{IsSane};
 ghost use Rattle.hs_events.specs.Whole.{Whole};
 ghost use Rattle.hs_fold.specs.Runs.Facts.{Catalogue as Folded};
+ghost use Rattle.hs_standing.specs.Copies.{AllComeOn, IsSeated, KnowsItsCopies};
 ghost use Rattle.hs_standing.specs.Held.{GivesAddresses};
 ghost use Rattle.hs_laws.specs.Valid.{IsValid};
 ghost use Rattle.hs_standing.specs.Legal.{IsStanding, MayStand};
@@ -38,20 +39,29 @@ use hs_standing::a_run_goes_on;
 /// A core that opens has told of no sweep and of no run that is done, whatever the number of copies
 /// (`opens`). Of a core that stands, between two events, each event that may come keeps the rule: each
 /// sweep that is told is exact at its place, and `done` stands directly behind the sweep that ends its
-/// run, and nowhere else (`event`): on a sane store of one copy a shard, where the root records and
-/// the Roots that wait are few, and the journal had room so far. So it is of what found the journal
-/// full, and of the journal alone.
+/// run, and nowhere else (`event`), for any number of copies: of a core that goes on, with its seats,
+/// where what is known of copies is within their lists, the root records and the Roots that wait are
+/// few, and the journal had room so far. So it is of what found the journal full, and of the journal
+/// alone. Behind each front of events one after another it is kept too, as long as all this is so
+/// (`events`).
 pub fn each_event_keeps_the_rule_of_done()
     ensures opens { (by : Judging) (start : Store) (shape : Shape) (limits : Limits)
         (taken : Taken) (moment : ℕ) →
         TellsDeletion by start (open_core shape limits taken moment) }
-    ensures event { (by : Judging) (start : Store) (whole : Whole) (event : Event) (moment : ℕ)
+    ensures event { (by : Judging) (start : Store) (core : Core) (event : Event) (moment : ℕ)
         (cs : List Folded)
-        → GivesAddresses by.name → IsValid start → IsSane whole → HasRecordRoom whole.core
-        → whole.core.entries ≡ [] → whole.core.refused ≡ []
-        → MayStand by start event whole.core → IsStanding by start whole.core cs
-        → TellsDeletion by start whole.core →
-        TellsDeletion by start (step event moment whole.core) }
+        → GivesAddresses by.name → IsValid start → core.ended ≡ None
+        → IsSeated core → KnowsItsCopies core → HasRecordRoom core
+        → core.entries ≡ [] → core.refused ≡ []
+        → MayStand by start event core → IsStanding by start core cs
+        → TellsDeletion by start core →
+        TellsDeletion by start (step event moment core) }
+    ensures events { (by : Judging) (start : Store) (core : Core) (events : Events)
+        (cs : List Folded)
+        → GivesAddresses by.name → IsValid start → core.refused ≡ [] → core.entries ≡ []
+        → AllComeOn (MayStand by start) core events → IsStanding by start core cs
+        → TellsDeletion by start core →
+        (n : ℕ) → TellsDeletion by start (steps core (take n events)) }
 {
     a_step_that_answers_is_the_judges();
     an_answer_is_the_judges();

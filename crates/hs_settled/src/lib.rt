@@ -35,7 +35,7 @@ pub use dates::notes_have_their_line;
 pub use ending::a_calm_run_ends_well;
 pub use entries::each_entry_stands_for_its_cause;
 pub use failures::a_failed_disk_is_told_once;
-pub use first::the_first_shard_enters_for_a_line;
+pub use first::{the_first_shard_enters_for_a_line, the_first_shard_of_copies_enters_for_a_line};
 pub use full::a_full_journal_deletes_as_promised;
 pub use going::each_operation_goes_on;
 pub use good::a_peer_is_good_until_it_is_told;

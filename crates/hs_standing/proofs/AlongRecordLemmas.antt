@@ -1,6 +1,5 @@
 -- How many root records an entry adds to a catalogue: a Root one at most, and any other none.
-use Rattle.std.proofs.Common.{ℕ, zero, suc, ◌+◌, ◌≤◌, ◌==◌, ◌||◌, ◌&&◌, Bool, true, false, cond, not, List, [], ◌∷◌, ◌++◌, length, map, filter, is_none, is_some, Option, Some, None, Ok, Err, Result, arith}
-use Rattle.std.proofs.lemmas.List.{length_push}
+use Rattle.std.proofs.Common.{ℕ, zero, suc, ◌+◌, ◌≤◌, ◌==◌, ◌||◌, ◌&&◌, Bool, true, false, cond, not, List, [], ◌∷◌, length, map, filter, is_none, is_some, Option, Some, None, Ok, Err, Result, arith}
 use Rattle.std.specs.Option.{option_map_or}
 use Rattle.hs_desk.specs.declared.what.What.TheVariants as what
 use Rattle.hs_entry.specs.declared.entry.Entry.{Entry}

@@ -1,46 +1,33 @@
--- What each of the changes keeps, each event keeps.
-use Rattle.std.proofs.Common.{◌≡◌, ◌∙◌, sym, ap, subst, inl, inr, ℕ, ◌<◌, Bool, true, false, cond, List, [], ◌∷◌, Option, Some, None, refl}
-use Rattle.std.proofs.lemmas.Bool.{cases_lt}
-use Rattle.hs_standing.specs.Walks.{HasRecordRoom, MayEvent, MayReport, Walks}
-use Rattle.hs_standing.proofs.AloneLemmas.{is_a_round, taken_out, within}
-use Rattle.hs_standing.proofs.BesideLemmas.{beside_again, beside_begun, beside_down, beside_ended, beside_nowhere, beside_silent, beside_start, beside_without}
-use Rattle.hs_standing.proofs.CommitLemmas.{due_goes}
-use Rattle.hs_standing.proofs.GrownLemmas.{grown_same}
-use Rattle.hs_standing.proofs.ReportLemmas.{report_goes}
+-- What each of the changes keeps, and a view that begins, each event keeps, for any number of copies; with one copy a shard no view begins.
+use Rattle.std.proofs.Common.{◌≡◌, ◌∙◌, sym, ap, subst, ℕ, zero, suc, ◌+◌, ◌<◌, ◌==◌, ◌&&◌, Bool, true, false, cond, List, [], ◌∷◌, Option, Some, None, refl, arith, length, nat_lt, not, take}
+use Rattle.hs_anatomy.proofs.EventLemmas.{does_acts}
+use Rattle.hs_anatomy.proofs.StepLemmas.{step_is}
+use Rattle.hs_anatomy.specs.Acts.{Acts, begun}
 use Rattle.hs_awaiting.specs.declared.waiting.Waiting.{Waiting}
-use Rattle.hs_awaiting.specs.Words.{change_if, ◌▸◌}
-use Rattle.hs_core_words.specs.Asking.{deliver, lose, no_peer, not_down, not_up, nudge, nudge_good, send_again, send_round, send_rounds}
-use Rattle.hs_core_words.specs.Changing.{change_pool, post, refuse}
+use Rattle.hs_awaiting.specs.Words.{change_if}
 use Rattle.hs_core_words.specs.declared.event.Event.{Event}
 use Rattle.hs_core_words.specs.declared.event.Event.TheVariants as event
-use Rattle.hs_core_words.specs.Delivering.{is_new_round}
-use Rattle.hs_core_words.specs.Entering.{propose_due}
-use Rattle.hs_core_words.specs.Failing.{go_down}
-use Rattle.hs_core_words.specs.Joining.{start}
-use Rattle.hs_core_words.specs.Looking.{group_of, home, lead_of, shape_of, status_of}
-use Rattle.hs_core_words.specs.Operating.{propose_entry}
+use Rattle.hs_core_words.specs.Looking.{shape_of}
+use Rattle.hs_core_words.specs.Records.{HasRecordRoom}
 use Rattle.hs_core_words.specs.State.{Core}
-use Rattle.hs_core_words.specs.Step.{do_event, end_event, step}
+use Rattle.hs_core_words.specs.Step.{do_event, end_event, keep_entries, line_of, refuse_entries, step}
 use Rattle.hs_desk.specs.declared.done.Done.{Done}
 use Rattle.hs_desk.specs.declared.done.Done.TheVariants as done
-use Rattle.hs_entry.specs.declared.entry.Entry.TheVariants as kind
+use Rattle.hs_desk.specs.declared.fault.CoreFault.{CoreFault}
 use Rattle.hs_events.proofs.KeepLemmas.{Leaves, ReportLeaves, keeps_do, with_line}
-use Rattle.hs_events.specs.Alone.{AreAlone, face}
+use Rattle.hs_events.specs.Course.{steps}
+use Rattle.hs_events.specs.Due.{Events}
 use Rattle.hs_events.specs.Sane.{IsSane}
 use Rattle.hs_events.specs.Whole.{Whole}
-use Rattle.hs_members.specs.Members.{Members, is_good_status}
+use Rattle.hs_limits.specs.declared.shape.Shape.{Shape}
 use Rattle.hs_model.specs.declared.op.Op.{Op}
-use Rattle.hs_model.specs.declared.reply.Reply.TheVariants as reply
-use Rattle.hs_moments.proofs.AloneEventLemmas.{alone_begun, begun, home_here, step_is}
-use Rattle.hs_moments.proofs.AloneLemmas.{resend_alone}
-use Rattle.hs_moments.proofs.AloneReportLemmas.{AreSettled}
-use Rattle.hs_moments.proofs.AloneStepLemmas.{steps_go_on}
-use Rattle.hs_moments.proofs.MoveLemmas.{Moves}
-use Rattle.hs_moments.proofs.StepsKeepLemmas.{keeps_if, keeps_propose_due, keeps_send_rounds, message_by, unless_by}
-use Rattle.hs_post.specs.declared.message.Message.{Message}
-use Rattle.hs_post.specs.declared.message.Message.TheVariants as message
-use Rattle.hs_post.specs.Pool.{is_full, message_at, without}
-use Rattle.hs_replica.specs.Group.{is_peer, resend}
+use Rattle.hs_post.specs.Pool.{is_empty, message_at, restart_numbers}
+use Rattle.hs_standing.proofs.ActLemmas.{acts_go}
+use Rattle.hs_standing.proofs.BesideLemmas.{beside_begun, beside_ended}
+use Rattle.hs_standing.proofs.LinesStepLemmas.{step_ended}
+use Rattle.hs_standing.proofs.SaneKnownLemmas.{sane_knows, sane_seated}
+use Rattle.hs_standing.specs.Copies.{AllComeOn, ComesOn, IsSeated, KnowsCopies, KnowsItsCopies}
+use Rattle.hs_standing.specs.Walks.{MayEvent, MayReport, Walks, WalksViews}
 
 -- ---- what found the journal full
 
@@ -81,74 +68,79 @@ line_refuses (event.Nudge line peer) c = refl
 line_refuses (event.Fail line peer) c = refl
 line_refuses (event.Start line peer) c = refl
 
-do_refuses : (e : Event) (c : Core) → (do_event e c).refused ≡ c.refused
+pub do_refuses : (e : Event) (c : Core) → (do_event e c).refused ≡ c.refused
 do_refuses e c = keeps_do refuses report_refuses e c ∙ line_refuses e c
+
+-- ---- what is known of copies, as it has begun
+
+pub seated_begun : (e : Event) (at : ℕ) (c : Core) → IsSeated c → IsSeated (begun e at c)
+seated_begun e at c h = record { lists = h.lists; peers = h.peers; copies = h.copies }
+
+pub knows_begun : (e : Event) (at : ℕ) (c : Core) → KnowsItsCopies c → KnowsItsCopies (begun e at c)
+knows_begun e at c h = record {
+  each = λ shard low. of shard (h.each shard low);
+  seals = h.seals;
+  haves = λ number shard from to view sealed there. h.haves number shard from to view sealed (sym (same ((c.progress.event_line == 0 && not (line_of e == 0)) && is_empty c.pool) number) ∙ there);
+  joining = h.joining;
+}
+  where
+    of : (shard : ℕ) → KnowsCopies shard c → KnowsCopies shard (begun e at c)
+    of shard k = record { same_shape = k.same_shape; same_shard = k.same_shard; copies = k.copies; led = k.led; known = k.known; sealed = k.sealed }
+
+    same : (b : Bool) (number : ℕ) → message_at number (change_if b restart_numbers c.pool) ≡ message_at number c.pool
+    same true number = refl
+    same false number = refl
+
+-- ---- along events
+
+-- where a core goes on its journal had room, and all is told
+record IsClean (c : Core) : Type 0 where
+  refused : c.refused ≡ []
+  told : c.entries ≡ []
+
+clean_on : (e : Event) (at : ℕ) (c : Core) → c.ended ≡ None → c.refused ≡ [] → (step e at c).ended ≡ None → IsClean (step e at c)
+clean_on e at c going clean on =
+    subst IsClean (sym (step_is e at c going)) (go (nat_lt b.limits.ops (length b.journal + length b.entries)) (ap (λ (x : Core). x.ended) (sym (step_is e at c going)) ∙ on))
+  where
+    b : Core
+    b = do_event e (begun e at c)
+
+    go : (full : Bool) → (cond full (refuse_entries b) (keep_entries b)).ended ≡ None → IsClean (cond full (refuse_entries b) (keep_entries b))
+    go true over = absurd (cc over)
+    go false over = record { refused = do_refuses e (begun e at c) ∙ clean; told = refl }
+
+-- behind its end a core stays as it is
+pub steps_over : (es : Events) (c : Core) (fault : CoreFault) → c.ended ≡ Some fault → steps c es ≡ c
+steps_over [] c fault over = refl
+steps_over (e ∷ es) c fault over = ap (λ (x : Core). steps x es) (step_ended e.0 e.1 c fault over) ∙ steps_over es c fault over
+
+-- what each event keeps, all of them keep, and that all is told stays
+pub along : (May : Event → Core → Type 0) (P : Core → Type 0) → ((e : Event) (at : ℕ) (c : Core) → c.ended ≡ None → c.refused ≡ [] → c.entries ≡ [] → ComesOn May e c → P c → P (step e at c))
+    → (es : Events) (c : Core) → c.refused ≡ [] → c.entries ≡ [] → AllComeOn May c es → P c → P (steps c es)
+along May P next [] c clean told may p = p
+along May P next (e ∷ es) c clean told may p =
+    begins (λ h q. along May P next es (step e.0 e.1 c) h.refused h.told may.1 q) c.ended refl
+  where
+    begins : (IsClean (step e.0 e.1 c) → P (step e.0 e.1 c) → P (steps (step e.0 e.1 c) es)) → (o : Option CoreFault) → c.ended ≡ o → P (steps (step e.0 e.1 c) es)
+    begins later (Some fault) over = subst P (sym (steps_over (e ∷ es) c fault over)) p
+    begins later None going = ends (step e.0 e.1 c).ended refl
+      where
+        q : P (step e.0 e.1 c)
+        q = next e.0 e.1 c going clean told (may.0 going) p
+
+        ends : (o : Option CoreFault) → (step e.0 e.1 c).ended ≡ o → P (steps (step e.0 e.1 c) es)
+        ends None on = later (clean_on e.0 e.1 c going clean on) q
+        ends (Some fault) over = subst P (sym (steps_over es (step e.0 e.1 c) fault over)) q
+
+-- so does each front of them come
+pub come_front : (May : Event → Core → Type 0) (n : ℕ) (es : Events) (c : Core) → AllComeOn May c es → AllComeOn May c (take n es)
+come_front May zero es c may = tt
+come_front May (suc n) [] c may = tt
+come_front May (suc n) (e ∷ es) c may = (may.0, come_front May n es (step e.0 e.1 c) may.1)
 
 -- ---- each event
 
 module _ {MayLine : ℕ → Op → Core → Type 0} {MayTell : ℕ → Option (List ℕ) → Waiting → Core → Type 0} {MayRefuse : ℕ → Type 0} {Q : Core → Type 0} (W : Walks MayLine MayTell MayRefuse Q) where
-  -- ---- messages
-
-  deliver_goes : (number : ℕ) (m : Message) (c : Core) → AreAlone (face c) → message_at number c.pool ≡ Some m → Q c → Q (deliver number m c)
-  deliver_goes number (message.Copy shard to view n entry) c h at q = let bad : false ≡ true = is_a_round c number (message.Copy shard to view n entry) h at in cc
-  deliver_goes number (message.Have shard from to view sealed) c h at q = let bad : false ≡ true = is_a_round c number (message.Have shard from to view sealed) h at in cc
-  deliver_goes number (message.Round from to epoch round total deltas) c h at q = go (is_new_round to from epoch round (change_pool (without number) c)) refl
-    where
-      go : (b : Bool) → is_new_round to from epoch round (change_pool (without number) c) ≡ b → Q (change_if b (propose_entry to (kind.Got from epoch round total deltas)) (change_pool (without number) c))
-      go true new = elim (cases_lt to c.members.shape.shards) [
-        | inl low ↦ W.round number from to epoch round total deltas c low at new q
-        | inr high ↦
-            let x : Core = change_pool (without number) c in
-            W.beside x (propose_entry to (kind.Got from epoch round total deltas) x) (beside_nowhere to (kind.Got from epoch round total deltas) x (taken_out c number h) high) (W.beside c x (beside_without number c) q)
-      ]
-      go false old = W.beside c (change_pool (without number) c) (beside_without number c) q
-
-  again_goes : (line number : ℕ) (m : Message) (c : Core) → MayRefuse line → message_at number c.pool ≡ Some m → Q c → Q (send_again line m c)
-  again_goes line number m c may at q = go (is_full c.pool)
-    where
-      go : (b : Bool) → Q (cond b (refuse line (reply.PoolFull c.pool.limit) c) (post (m ∷ []) c))
-      go true = W.refused line (reply.PoolFull c.pool.limit) c may q
-      go false = W.beside c (post (m ∷ []) c) (beside_again number m c at) q
-
-  -- ---- a nudge
-
-  lead_goes : (b : Bool) (s : ℕ) (c : Core) → s < (shape_of c).shards → Q c → Q (change_if b (λ core. core ▸ propose_due s ▸ send_rounds s) c)
-  lead_goes true s c low q =
-      let due : Core = propose_due s c in
-      let q_due : Q due = (due_goes W c s c low (q, grown_same c)).0 in
-      W.again 0 s (send_round 1 s due) (W.again 1 s due q_due)
-  lead_goes false s c low q = q
-
-  nudge_goes : (p : ℕ) (c : Core) → AreAlone (face c) → p < c.members.shape.shards → Q c → Q (nudge p c)
-  nudge_goes p c h low q =
-      let s : ℕ = home p c in
-      let x : Core = change_if (is_peer p (lead_of s c)) (λ core. core ▸ propose_due s ▸ send_rounds s) c in
-      let m : Moves (face c) (face x) = keeps_if steps_go_on (is_peer p (lead_of s c)) (λ core. core ▸ propose_due s ▸ send_rounds s) c (λ y. steps_go_on.both y (propose_due s y) (send_rounds s (propose_due s y)) (keeps_propose_due steps_go_on s y) (keeps_send_rounds steps_go_on s (propose_due s y))) h in
-      let here : p < x.members.shape.shards = subst (λ (m : Members). p < m.shape.shards) (sym m.members) low in
-      let silent : resend p (group_of s x) ≡ [] = ap (λ k. resend p (group_of k x)) (home_here c p h.copies) ∙ resend_alone x.members.shape p (group_of p x) m.alone.copies (m.alone.each p here) in
-      let s_low : s < (shape_of c).shards = subst (λ k. k < (shape_of c).shards) (sym (home_here c p h.copies)) low in
-      W.beside x (nudge p c) (beside_silent (resend p (group_of s x)) x silent) (lead_goes (is_peer p (lead_of s c)) s c s_low q)
-
-  good_goes : (p : ℕ) (c : Core) → AreAlone (face c) → Q c → Q (nudge_good p c)
-  good_goes p c h q = go (is_good_status (status_of p c)) refl
-    where
-      go : (b : Bool) → is_good_status (status_of p c) ≡ b → Q (change_if b (nudge p) c)
-      go true good = nudge_goes p c h (within c p h good) q
-      go false bad = q
-
-  -- ---- between its beginning and its end
-
-  does_goes : (e : Event) (c : Core) → AreAlone (face c) → AreSettled c → HasRecordRoom c → MayEvent MayLine MayTell MayRefuse e c → Q c → Q (do_event e c)
-  does_goes (event.Line line o) c h settled room may q = W.line line o c may q
-  does_goes (event.Report p d) c h settled room may q = report_goes W p d c h settled room may q
-  does_goes (event.Turn line p) c h settled room may q = unless_by line (no_peer p c ∷ not_up p c ∷ []) (λ core. core) c Q (λ r. W.refused line r c may q) (λ e. q)
-  does_goes (event.Deliver line number) c h settled room may q = message_by line number (deliver number) c Q (λ r. W.refused line r c may q) (λ m at. deliver_goes number m c h at q)
-  does_goes (event.Lose line number) c h settled room may q = message_by line number (lose number) c Q (λ r. W.refused line r c may q) (λ m at. W.beside c (lose number m c) (beside_without number c) q)
-  does_goes (event.Repeat line number) c h settled room may q = message_by line number (send_again line) c Q (λ r. W.refused line r c may q) (λ m at. again_goes line number m c may at q)
-  does_goes (event.Nudge line p) c h settled room may q = unless_by line (no_peer p c ∷ not_up p c ∷ []) (nudge_good p) c Q (λ r. W.refused line r c may q) (λ e. good_goes p c h q)
-  does_goes (event.Fail line p) c h settled room may q = unless_by line (no_peer p c ∷ not_up p c ∷ []) (go_down p) c Q (λ r. W.refused line r c may q) (λ e. W.beside c (go_down p c) (beside_down p c h) q)
-  does_goes (event.Start line p) c h settled room may q = unless_by line (no_peer p c ∷ not_down p c ∷ []) (start p) c Q (λ r. W.refused line r c may q) (λ e. W.beside c (start p c) (beside_start p c) q)
-
   -- ---- what is asked, as it has begun
 
   may_report : (p : ℕ) (d : Done) (e : Event) (at : ℕ) (c : Core) → MayReport MayTell p d c → MayReport MayTell p d (begun e at c)
@@ -161,7 +153,7 @@ module _ {MayLine : ℕ → Op → Core → Type 0} {MayTell : ℕ → Option (L
   may_report p (done.Stepped switched) e at c may = tt
   may_report p (done.Failed disk) e at c may = tt
 
-  may_begun : (e : Event) (at : ℕ) (c : Core) → MayEvent MayLine MayTell MayRefuse e c → MayEvent MayLine MayTell MayRefuse e (begun e at c)
+  pub may_begun : (e : Event) (at : ℕ) (c : Core) → MayEvent MayLine MayTell MayRefuse e c → MayEvent MayLine MayTell MayRefuse e (begun e at c)
   may_begun (event.Line line o) at c may = W.line_beside line o c (begun (event.Line line o) at c) (beside_begun (event.Line line o) at c) may
   may_begun (event.Report p d) at c may = may_report p d (event.Report p d) at c may
   may_begun (event.Turn line p) at c may = may
@@ -174,10 +166,30 @@ module _ {MayLine : ℕ → Op → Core → Type 0} {MayTell : ℕ → Option (L
 
   -- ---- one event at a moment
 
+  -- between any two acts
+  pub acts_keep_it : (c : Core) → WalksViews (shape_of c) Q → (e : Event) (at : ℕ) → IsSeated c → KnowsItsCopies c → HasRecordRoom c → MayEvent MayLine MayTell MayRefuse e c → Q c → (b : Core) → Acts (begun e at c) (Some e) b → Q b
+  acts_keep_it c views e at seated known room may q b xs =
+      acts_go W (shape_of c) views (begun e at c) e refl (may_begun e at c may) (seated_begun e at c seated) (knows_begun e at c known) room (W.beside c (begun e at c) (beside_begun e at c) q) b xs
+
+  pub copies_step : (c : Core) → WalksViews (shape_of c) Q → (e : Event) (at : ℕ) → c.ended ≡ None → IsSeated c → KnowsItsCopies c
+      → HasRecordRoom c → c.refused ≡ [] → MayEvent MayLine MayTell MayRefuse e c → Q c → Q (step e at c)
+  copies_step c views e at going seated known room none may q =
+      let x : Core = begun e at c in
+      let b : Core = do_event e x in
+      let q_b : Q b = acts_keep_it c views e at seated known room may q b (does_acts x e) in
+      subst Q (sym (step_is e at c going)) (W.beside b (end_event b) (beside_ended b (do_refuses e x ∙ none)) q_b)
+
+  -- and some, one after another
+  pub copies_steps : ((shape : Shape) → WalksViews shape Q) → (es : Events) (c : Core) → c.refused ≡ [] → c.entries ≡ [] → AllComeOn (MayEvent MayLine MayTell MayRefuse) c es → Q c → Q (steps c es)
+  copies_steps views es c clean told may q =
+      along (MayEvent MayLine MayTell MayRefuse) Q (λ e at a going none quiet comes q_a. copies_step a (views (shape_of a)) e at going comes.seated comes.known comes.room none comes.may q_a) es c clean told may q
+
+  -- with one copy a shard no view begins
   pub walks_step : (c : Whole) (e : Event) (at : ℕ) → IsSane c → HasRecordRoom c.core → c.core.refused ≡ [] → MayEvent MayLine MayTell MayRefuse e c.core → Q c.core → Q (step e at c.core)
   walks_step c e at h room none may q =
-      let x : Core = begun e at c.core in
-      let b : Core = do_event e x in
-      let q_x : Q x = W.beside c.core x (beside_begun e at c.core) q in
-      let q_b : Q b = does_goes e x (alone_begun e at c.core h.alone) h.settled room (may_begun e at c.core may) q_x in
-      subst Q (sym (step_is e at c.core h.going)) (W.beside b (end_event b) (beside_ended b (do_refuses e x ∙ none)) q_b)
+      copies_step c.core (λ shard a same low more q_a. absurd (alone a same more)) e at h.going (sane_seated c h) (sane_knows c h) room none may q
+    where
+      alone : (a : Core) → shape_of a ≡ shape_of c.core → 1 < (shape_of a).copies → ⊥
+      alone a same more =
+          let one : (shape_of a).copies ≡ 1 = ap (λ (x : Shape). x.copies) same ∙ h.alone.copies in
+          omega (arith, one, more)

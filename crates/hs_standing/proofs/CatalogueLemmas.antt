@@ -1,5 +1,5 @@
 -- The addresses of a shard's blocks, their pointers, and what its roots keep, behind an entry of any kind.
-use Rattle.std.proofs.Common.{◌≡◌, sym, subst, ℕ, zero, suc, ◌+◌, ◌==◌, Bool, true, false, cond, not, ◌&&◌, ◌||◌, List, [], ◌∷◌, ◌++◌, length, map, filter, is_none, is_some, Option, Some, None, Ok, Err, Result, refl}
+use Rattle.std.proofs.Common.{◌≡◌, sym, subst, ℕ, zero, suc, ◌+◌, ◌==◌, Bool, true, false, cond, not, ◌&&◌, ◌||◌, List, [], ◌∷◌, length, map, filter, is_none, is_some, Option, Some, None, Ok, Err, Result, refl}
 use Rattle.std.specs.BTreeMap.{is_at}
 use Rattle.std.specs.List.{AllByRecursion}
 use Rattle.std.specs.Option.{option_map, option_map_or}
@@ -7,7 +7,7 @@ use Rattle.hs_desk.specs.declared.what.What.TheVariants as what
 use Rattle.hs_entry.specs.declared.entry.Entry.{Entry}
 use Rattle.hs_entry.specs.declared.entry.Entry.TheVariants as kind
 use Rattle.hs_standing.specs.Held.{Has32Bytes, KeepsAddresses}
-use Rattle.hs_standing.proofs.AllLemmas.{all_append, all_filter, all_map, each_found, each_insert, each_set}
+use Rattle.hs_standing.proofs.AllLemmas.{all_filter, all_map, each_found, each_insert, each_set}
 use Rattle.hs_limits.specs.Block.{Block}
 use Rattle.hs_limits.specs.Reading.{read_block}
 use Rattle.hs_limits.specs.Shape.{shard_of_key}

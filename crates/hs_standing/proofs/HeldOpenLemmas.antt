@@ -1,11 +1,11 @@
 -- As a core opens: what its sessions and shards keep has addresses of 32 bytes, and no Mark waits.
-use Rattle.std.proofs.Common.{◌≡◌, ◌∙◌, sym, ap, ℕ, false, List, [], map, None, Some}
-use Rattle.std.specs.BTreeMap.{is_at}
+use Rattle.std.proofs.Common.{List, Some, ap, false, inl, inr, slice_get, subst, sym, ℕ, ◌∙◌, ◌≡◌, ◌⊎◌}
 use Rattle.std.specs.List.{AllByRecursion}
-use Rattle.std.specs.Map.{lookup}
-use Rattle.std.specs.Ordering.{nat_cmp}
-use Rattle.hs_awaiting.specs.declared.waiting.Waiting.{Waiting}
-use Rattle.hs_awaiting.specs.Views.{restarted}
+use Rattle.hs_fold.specs.Runs.Fits.{catalogue_at}
+use Rattle.hs_ops.specs.Operations.{Operation}
+use Rattle.hs_effects.proofs.ViewLemmas.{at_cut}
+use Rattle.hs_effects.proofs.GroupLemmas.{group_changed}
+use Rattle.hs_standing.proofs.AgainLemmas.{Was, was}
 use Rattle.hs_core_words.specs.Changing.{change_group, post, set_viewed}
 use Rattle.hs_core_words.specs.Looking.{group_of}
 use Rattle.hs_core_words.specs.Opening.{Taken, new_core}
@@ -13,13 +13,13 @@ use Rattle.hs_core_words.specs.State.{Core}
 use Rattle.hs_core_words.specs.Views.{begin_view, restart}
 use Rattle.hs_entry.specs.declared.entry.Entry.TheVariants as kind
 use Rattle.hs_fold.specs.Runs.Facts.{Catalogue as Folded}
-use Rattle.hs_standing.specs.Held.{AreAddressed, AreWritten, KeepsAddresses}
+use Rattle.hs_standing.specs.Held.{AreAddressed, AreWritten, IsOfWrite, KeepsAddresses}
 use Rattle.hs_standing.proofs.HeldHeldLemmas.{proposed_held}
 use Rattle.hs_standing.proofs.WrittenLemmas.{proposed_written}
 use Rattle.hs_limits.specs.declared.limits.Limits.{Limits}
 use Rattle.hs_limits.specs.declared.shape.Shape.{Shape}
 use Rattle.hs_members.specs.Members.{view_of}
-use Rattle.hs_replica.specs.Group.{last_number, renew, renewal}
+use Rattle.hs_replica.specs.Group.{Group, last_number, renew, renewal}
 
 pub held_new : (shape : Shape) (limits : Limits) (found : Taken) (moment : ℕ) → AllByRecursion KeepsAddresses found.catalogues → AreAddressed (new_core shape limits found moment)
 held_new shape limits found moment h = record { sessions = tt; catalogues = h }
@@ -39,17 +39,19 @@ module _ (shard : ℕ) (c : Core) where
   pub held_opens : AreAddressed c → AreAddressed (begin_view shard c)
   held_opens its = proposed_held shard (kind.View (view_of shard posted.members)) posted (record { sessions = its.sessions; catalogues = its.catalogues })
 
-  none_written : (cs : List Folded) → c.operations ≡ [] → AreWritten posted cs
-  none_written cs none g place line least number a w at of = absurd (clash w (nothing ∙ of))
+  -- each Mark that waits still is of the same write
+  kept_written : (cs : List Folded) → AreWritten c cs → AreWritten posted cs
+  kept_written cs its g place line least number a w at of =
+      let last : ℕ = last_number (group_of shard (change_group shard (renew c.members) (set_viewed shard false c))) in
+      let u : Was (change_group shard (renew c.members) (set_viewed shard false c)) line w = was shard last (change_group shard (renew c.members) (set_viewed shard false c)) line w of in
+      subst (λ (o : Operation). IsOfWrite c.sessions o.op (catalogue_at cs g) number a) u.same (its g place line least number a u.waiting (there (group_changed shard (renew c.members) (set_viewed shard false c) g)) u.at)
     where
-      clash : (x : Waiting) → None ≡ Some x → ⊥
-      clash x e = cc e
+      there : (group_of g (change_group shard (renew c.members) (set_viewed shard false c)) ≡ group_of g c) ⊎ ((g ≡ shard) × (group_of g (change_group shard (renew c.members) (set_viewed shard false c)) ≡ renew c.members (group_of shard c)))
+          → slice_get (group_of g c).waiting place ≡ Some (kind.Mark line least number a)
+      there (inl same) = ap (λ (x : Group). slice_get x.waiting place) (sym same) ∙ at
+      there (inr is) =
+          ap (λ k. slice_get (group_of k c).waiting place) is.0
+          ∙ at_cut _ (group_of shard c).waiting place (kind.Mark line least number a) (ap (λ (x : Group). slice_get x.waiting place) (sym is.1) ∙ at)
 
-      last : ℕ
-      last = last_number (group_of shard (change_group shard (renew c.members) (set_viewed shard false c)))
-
-      nothing : lookup (is_at (nat_cmp line)) (map (λ (e : ℕ × Waiting). (e.0, restarted shard last e.1)) []) ≡ lookup (is_at (nat_cmp line)) (map (λ (e : ℕ × Waiting). (e.0, restarted shard last e.1)) c.operations)
-      nothing = ap (λ (es : List (ℕ × Waiting)). lookup (is_at (nat_cmp line)) (map (λ (e : ℕ × Waiting). (e.0, restarted shard last e.1)) es)) (sym none)
-
-  pub written_opens : (cs : List Folded) → c.operations ≡ [] → AreWritten (begin_view shard c) cs
-  written_opens cs none = proposed_written shard (kind.View (view_of shard posted.members)) posted cs (λ line least number m w is at. absurd (cc is)) (none_written cs none)
+  pub written_opens : (cs : List Folded) → AreWritten c cs → AreWritten (begin_view shard c) cs
+  written_opens cs its = proposed_written shard (kind.View (view_of shard posted.members)) posted cs (λ line least number m w is at. absurd (cc is)) (kept_written cs its)

@@ -1,17 +1,19 @@
 -- A core stands as it opens.
-use Rattle.std.proofs.Common.{◌≡◌, ◌∙◌, sym, ap, subst, inr, ℕ, zero, suc, ◌<◌, false, List, [], map, Some, None, refl, slice_get}
+use Rattle.std.proofs.Common.{◌≡◌, ◌∙◌, sym, ap, subst, inr, ℕ, zero, suc, ◌<◌, false, List, [], Some, None, refl, slice_get}
 use Rattle.std.specs.BTreeMap.{is_at}
 use Rattle.std.specs.Map.{lookup}
 use Rattle.std.specs.Ordering.{nat_cmp}
+use Rattle.hs_tokens.specs.Seats.{Seats}
+use Rattle.hs_ops.specs.Operations.{Operation}
+use Rattle.hs_standing.proofs.AgainLemmas.{Was, was}
 use Rattle.hs_standing.proofs.AlongOpenLemmas.{opens_core}
 use Rattle.hs_standing.specs.Walks.{WalksOpen}
 use Rattle.hs_answered.proofs.TellingLemmas.{tells_none}
 use Rattle.hs_answered.specs.Standing.{store_with}
 use Rattle.hs_answered.specs.Telling.{Judging}
 use Rattle.hs_awaiting.specs.declared.waiting.Waiting.{Waiting}
-use Rattle.hs_awaiting.specs.Views.{restarted}
 use Rattle.hs_core_words.specs.Changing.{change_group, post, set_viewed}
-use Rattle.hs_core_words.specs.Looking.{group_of, operation_of, shape_of}
+use Rattle.hs_core_words.specs.Looking.{group_of, shape_of}
 use Rattle.hs_core_words.specs.Opening.{Taken, new_core, open_core}
 use Rattle.hs_core_words.specs.State.{Core}
 use Rattle.hs_core_words.specs.Views.{begin_view, restart}
@@ -36,7 +38,7 @@ use Rattle.hs_standing.proofs.MuteLemmas.{Books, Words, proposed_books, proposed
 use Rattle.hs_standing.proofs.StandingLemmas.{walks_standing}
 use Rattle.hs_standing.proofs.TellLemmas.{TellsOn, silent_on, telling_on}
 use Rattle.hs_standing.specs.Bytes.{TellsItsBlock}
-use Rattle.hs_standing.specs.Commands.{AreCommanded, IsLineOf, IsNobodys}
+use Rattle.hs_standing.specs.Commands.{AreCommanded, IsCommanded, IsLineOf, IsNobodys}
 use Rattle.hs_standing.specs.Epochs.{HaveEpochs}
 use Rattle.hs_standing.specs.Opens.{MayOpen}
 use Rattle.hs_standing.specs.Legal.{IsStanding}
@@ -50,11 +52,7 @@ use Rattle.hs_standing.proofs.RestLemmas.{rests_new, rests_opens}
 use Rattle.hs_standing.proofs.StoredLemmas.{stored_opens}
 use Rattle.hs_standing.proofs.AtomLemmas.{sent_new, sent_opens}
 
--- ---- a first view
-
--- where there is no operation none starts again
-none_again : (f : ℕ × Waiting → ℕ × Waiting) (es : List (ℕ × Waiting)) (line : ℕ) → es ≡ [] → lookup (is_at (nat_cmp line)) (map f es) ≡ None
-none_again f es line e = ap (λ (xs : List (ℕ × Waiting)). lookup (is_at (nat_cmp line)) (map f xs)) e
+-- ---- a view begins
 
 none_some : (w : Waiting) → None ≡ Some w → ⊥
 none_some w e = cc e
@@ -69,21 +67,21 @@ module _ (by : Judging) (shard : ℕ) (c : Core) where
   abbrev first : Entry
   first = kind.View (view_of shard c.members)
 
-  began_like : Likewise c (begin_view shard c)
+  pub began_like : Likewise c (begin_view shard c)
   began_like =
       let q : Quiet posted (begin_view shard c) = proposed_quiet shard first posted in
       from_quiet c (begin_view shard c) (record { catalogues = q.catalogues; members = q.members; limits = q.limits; moment = q.moment })
 
-  began_commands : c.operations ≡ [] → AreCommanded by (begin_view shard c)
-  began_commands none line w at = absurd (none_some w (sym there ∙ at))
-    where
-      nobody : lookup (is_at (nat_cmp line)) posted.operations ≡ None
-      nobody = none_again (λ (e : ℕ × Waiting). (e.0, restarted shard (last_number (group_of shard cut)) e.1)) c.operations line none
+  pub began_seats : (begin_view shard c).sessions ≡ c.sessions
+  began_seats = ap (λ (x : Words). x.sessions) (proposed_words shard first posted)
 
-      there : operation_of line (begin_view shard c) ≡ None
-      there = ap (λ (x : Words). lookup (is_at (nat_cmp line)) x.operations) (proposed_words shard first posted) ∙ nobody
+  pub began_commands : AreCommanded by c → AreCommanded by (begin_view shard c)
+  began_commands its line w at =
+      let u : Was cut line w = was shard (last_number (group_of shard cut)) cut line w (sym (ap (λ (x : Words). lookup (is_at (nat_cmp line)) x.operations) (proposed_words shard first posted)) ∙ at) in
+      subst (λ (seats : Seats). IsCommanded by seats line w.operation.op) (sym (ap (λ (x : Words). x.sessions) (proposed_words shard first posted)))
+      (subst (λ (o : Operation). IsCommanded by c.sessions line o.op) u.same (its line u.waiting u.at))
 
-  began_epochs : HaveEpochs c → HaveEpochs (begin_view shard c)
+  pub began_epochs : HaveEpochs c → HaveEpochs (begin_view shard c)
   began_epochs its =
       epochs_by c (begin_view shard c) began_like.limits
       (λ g place e at. inr (each_viewed shard c (λ k n x. IsWithin c.limits x) (λ l n is counted. absurd (cc is)) (λ k place x there l n is counted. its k place l n (there ∙ ap (λ (y : Entry). Some y) is) counted) g place e at)) its
@@ -93,8 +91,8 @@ module _ (by : Judging) (shard : ℕ) (c : Core) where
       silent_on by cs cs c (begin_view shard c) (ap (λ (b : Books). b.journal) (proposed_books shard first posted)) (ap (λ (b : Books). b.refused) (proposed_books shard first posted))
       (ap (λ (x : Words). x.entries) (proposed_words shard first posted)) (ap (λ (x : Words). store_with cs x.sessions) (proposed_words shard first posted))
 
-  pub standing_opens : (start : Store) (cs : List Folded) → IsStanding by start c cs → shard < (shape_of c).shards → c.operations ≡ [] → IsStanding by start (begin_view shard c) cs
-  standing_opens start cs its low none = record {
+  pub standing_opens : (start : Store) (cs : List Folded) → IsStanding by start c cs → shard < (shape_of c).shards → IsStanding by start (begin_view shard c) cs
+  standing_opens start cs its low = record {
     limits = began_like.limits ∙ its.limits;
     orderly = view_began by.name shard c its.orderly;
     lawful = lawful_on by.name c (begin_view shard c) cs began_like its.lawful;
@@ -102,8 +100,8 @@ module _ (by : Judging) (shard : ℕ) (c : Core) where
     resting = rests_opens cs c its.resting shard (subst (λ (n : ℕ). shard < n) (sym its.lawful.folded.shards) low);
     stored = stored_opens cs c its.stored shard;
     addressed = held_opens shard c its.addressed;
-    written = written_opens shard c cs none;
-    commands = began_commands none;
+    written = written_opens shard c cs its.written;
+    commands = began_commands its.commands;
     epochs = began_epochs its.epochs;
     tells = telling_on by start cs cs c (begin_view shard c) (began_tells cs) its.tells;
   }
@@ -146,7 +144,7 @@ module _ (views : ByViews) (steps : Steps) (laws : Entries) (by : Judging) (name
   opens_standing : (start : Store) → IsValid start → WalksOpen (λ line o c. IsLineOf by c line o) (TellsItsBlock by start) (IsNobodys by) (λ c. (cs : List Folded) × IsStanding by start c cs)
   opens_standing start valid = record {
     walks = walks_standing views steps laws by names start valid;
-    opens = λ shard c low waits none s. (s.0, standing_opens by shard c start s.0 s.1 low none);
+    opens = λ shard c low waits none s. (s.0, standing_opens by shard c start s.0 s.1 low);
   }
 
   pub opened : (shape : Shape) (taken : Taken) (moment : ℕ) (cs : List Folded) → MayOpen by shape taken moment cs → (after : List Folded) × IsStanding by (store_with cs []) (open_core shape by.limits taken moment) after

@@ -1,3 +1,5 @@
+pub mod ActLemmas
+pub mod AgainLemmas
 pub mod AcceptLemmas
 pub mod AddLemmas
 pub mod AddressedLemmas
@@ -21,6 +23,7 @@ pub mod DueLemmas
 pub mod EnterLemmas
 pub mod EpochLemmas
 pub mod EventLemmas
+pub mod FewLemmas
 pub mod FirstLemmas
 pub mod FollowLemmas
 pub mod GainLemmas
@@ -33,10 +36,10 @@ pub mod HeldHeldLemmas
 pub mod HeldLineLemmas
 pub mod HeldOpenLemmas
 pub mod HistoryLemmas
-pub mod IdleLemmas
 pub mod ImageLemmas
 pub mod JoinLemmas
 pub mod KeepLemmas
+pub mod KnownLemmas
 pub mod LastLemmas
 pub mod Laws
 pub mod LegalEffectLemmas
@@ -59,15 +62,17 @@ pub mod ProposeLemmas
 pub mod QuietLemmas
 pub mod ReadyLemmas
 pub mod ReopenLemmas
-pub mod ReportLemmas
 pub mod RestLemmas
 pub mod RestsHeldLemmas
 pub mod RestsListLemmas
 pub mod RestsOpenLemmas
+pub mod RoomyLemmas
 pub mod RunLemmas
 pub mod SameLemmas
+pub mod SaneKnownLemmas
 pub mod SaneLemmas
 pub mod SayLemmas
+pub mod SeatedLemmas
 pub mod SendLemmas
 pub mod SentTakenLemmas
 pub mod SentWaitLemmas

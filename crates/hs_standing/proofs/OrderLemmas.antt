@@ -1,6 +1,5 @@
 -- Operations and the entries that they asked for stay in order along each single change.
 use Rattle.std.proofs.Common.{◌≡◌, ◌∙◌, sym, ap, subst, ℕ, ◌+◌, cond, List, Option, Some, None, refl, slice_index_or}
-use Rattle.hs_standing.proofs.IdleLemmas.{idle_is}
 use Rattle.hs_standing.specs.Changes.{IsBeside, IsIdle, tells_at_once, told_at_once}
 use Rattle.hs_awaiting.specs.declared.wait.Wait.TheVariants as wait
 use Rattle.hs_awaiting.specs.declared.waiting.Waiting.{Waiting}
@@ -78,7 +77,7 @@ module _ (name : List ℕ → Address) (c : Core) (its : IsOrderly name c) where
   orderly_line line o fresh = begun_orderly name line o c its fresh.new fresh.counted fresh.called
 
   pub orderly_goes : (line : ℕ) → ((w : Waiting) → operation_of line c ≡ Some w → IsIdle w.wait) → IsOrderly name (resume line c)
-  orderly_goes line idle = going_orderly go_step going_asks name line c its (idle_free name c line its (λ w at. idle_is w.wait (idle w at)))
+  orderly_goes line idle = going_orderly go_step going_asks name line c its (idle_free name c line its (λ w at. (idle w at)))
 
   pub orderly_told : (line number : ℕ) (bytes : Option (List ℕ)) (w : Waiting) → operation_of line c ≡ Some w → w.wait ≡ wait.Bytes number
       → IsOrderly name (go_on_with (λ v o. bytes_step v bytes (pointers_for w.shard w.operation.op c) o) line c)

@@ -107,7 +107,7 @@ first_stands below start found o =
     (record {
       beside = λ a b beside its. standing_beside below.views below.steps below.laws (judging_of start) o.names start.entry (entry_valid below.memory start found o) a (opened_folds start.set found) its b beside;
       downed = λ peer c its. standing_downed below.views below.steps below.laws (judging_of start) o.names start.entry (entry_valid below.memory start found o) c (opened_folds start.set found) its peer 0;
-      views = λ shard c low none its. standing_opens (judging_of start) shard c start.entry (opened_folds start.set found) its low none;
+      views = λ shard c low none its. standing_opens (judging_of start) shard c start.entry (opened_folds start.set found) its low;
     })
     start.set.shape start.set.limits (opens_with start.set found) found.opened
     (subst (λ (s : Store). IsStanding (judging_of start) s (new_core start.set.shape start.set.limits (opens_with start.set found) found.opened) (opened_folds start.set found)) (sym (o.entry ∙ no_sessions (opened_folds start.set found)))

@@ -3,6 +3,7 @@ pub mod Bytes
 pub mod Changes
 pub mod Coming
 pub mod Commands
+pub mod Copies
 pub mod Effect
 pub mod Epochs
 pub mod Held

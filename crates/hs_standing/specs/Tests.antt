@@ -1,9 +1,10 @@
 -- What is kept, and what is asked of events, as tests: for clauses, which range over tests.
 use Rattle.std.specs.Prelude.{◌≡◌, ℕ, true, Bool, List, Option}
-use Rattle.hs_standing.specs.Walks.{MayEvent, Walks, WalksOpen}
+use Rattle.hs_standing.specs.Walks.{MayEvent, Walks, WalksOpen, WalksViews}
 use Rattle.hs_awaiting.specs.declared.waiting.Waiting.{Waiting}
 use Rattle.hs_core_words.specs.declared.event.Event.{Event}
 use Rattle.hs_core_words.specs.State.{Core}
+use Rattle.hs_limits.specs.declared.shape.Shape.{Shape}
 use Rattle.hs_model.specs.declared.op.Op.{Op}
 
 -- of a core, of a client's line, of bytes that a report tells, of a line that is no client's
@@ -17,6 +18,10 @@ pub record Tests : Type 0 where
 abbrev pub AreKept : Tests → Type 0
 AreKept tests =
     Walks (λ line o core. tests.may_line line o core ≡ true) (λ number bytes w core. tests.may_tell number bytes w core ≡ true) (λ line. tests.may_refuse line ≡ true) (λ core. tests.holds core ≡ true)
+
+-- and so does a view that begins, in a store of this shape, of more than one copy a shard
+abbrev pub AreKeptByViews : Tests → Shape → Type 0
+AreKeptByViews tests shape = WalksViews shape (λ core. tests.holds core ≡ true)
 
 -- and so does a first view
 abbrev pub AreKeptOpen : Tests → Type 0

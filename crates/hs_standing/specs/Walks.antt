@@ -33,6 +33,7 @@ use Rattle.hs_post.specs.declared.message.Message.TheVariants as message
 use Rattle.hs_post.specs.Pool.{message_at, without}
 use Rattle.hs_replica.specs.Group.{committed}
 use Rattle.hs_limits.specs.declared.delta.Delta.{Delta}
+use Rattle.hs_limits.specs.declared.shape.Shape.{Shape}
 
 -- ---- the changes
 
@@ -65,6 +66,10 @@ pub record Walks (MayLine : ℕ → Op → Core → Type 0) (MayTell : ℕ → O
 pub record WalksOpen (MayLine : ℕ → Op → Core → Type 0) (MayTell : ℕ → Option (List ℕ) → Waiting → Core → Type 0) (MayRefuse : ℕ → Type 0) (Q : Core → Type 0) : Type 0 where
   pub walks : Walks MayLine MayTell MayRefuse Q
   pub opens : (shard : ℕ) (c : Core) → shard < (shape_of c).shards → (group_of shard c).waiting ≡ [] → c.operations ≡ [] → Q c → Q (begin_view shard c)
+
+-- and so does a view that begins, in a store of this shape, of more than one copy a shard
+abbrev pub WalksViews : Shape → (Core → Type 0) → Type 0
+WalksViews shape Q = (shard : ℕ) (c : Core) → shape_of c ≡ shape → shard < (shape_of c).shards → 1 < (shape_of c).copies → Q c → Q (begin_view shard c)
 
 -- ---- the event
 

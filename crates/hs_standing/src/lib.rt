@@ -1,5 +1,5 @@
-//! A store of one copy a shard stands at each moment of its run, and its journal is a legal run of the plain store: laws,
-//! each a function without parameters whose clauses are the law.
+//! The journal of a store is a legal run of the plain store behind each event, for any number of copies, and a store of one
+//! copy a shard stands at each moment of its run: laws, each a function without parameters whose clauses are the law.
 #![tactic(auto)]
 
 mod addresses;
@@ -44,7 +44,7 @@ pub use proposed::an_entry_comes_to_wait;
 pub use reopening::what_stands_reopens;
 pub use rests::what_waits_rests_on_what_is_there;
 pub use run::{a_run_goes_on, each_moment_of_a_run_stands};
-pub use sane::a_sane_store_has_lists;
+pub use sane::{a_sane_store_has_lists, a_sane_store_knows_its_copies};
 pub use standing::what_stands_may_stop;
 pub use stored::what_is_present_was_stored;
 pub use suffices::easily_told_facts_suffice;

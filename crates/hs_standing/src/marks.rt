@@ -38,13 +38,13 @@ pub fn a_mark_gives_its_writes_block()
 {}
 
 /// Each Mark that waits is of the block that its line writes, as long as this is there, and each
-/// change keeps it so. None waits as a core opens (`opened`, `views`), and no step proposes one but
-/// that of a write which is told bytes, where they are its block's (`told`). An entry that takes
+/// change keeps it so, and a view that begins (`views`). None waits as a core opens (`opened`), and no
+/// step proposes one but that of a write which is told bytes, where they are its block's (`told`). An entry that takes
 /// effect keeps it, where each Mark names a block that took effect before (`effect`).
 pub fn each_change_keeps_marks()
     ensures opened { (cs : List Folded) (shape : Shape) (limits : Limits) (found : Taken)
         (moment : ℕ) → AreWritten (new_core shape limits found moment) cs }
-    ensures views { (shard : ℕ) (core : Core) (cs : List Folded) → core.operations ≡ [] →
+    ensures views { (shard : ℕ) (core : Core) (cs : List Folded) → AreWritten core cs →
         AreWritten (begin_view shard core) cs }
     ensures beside { (cs : List Folded) (before after : Core) → IsBeside before after
         → AreWritten before cs → AreWritten after cs }

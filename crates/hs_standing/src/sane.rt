@@ -8,8 +8,16 @@ ghost use Rattle.hs_events.specs.Whole.{Whole, floor, reach, step_whole};
 ghost use Rattle.hs_fold.specs.Prefix.{IsNumbered};
 ghost use Rattle.hs_members.specs.Members.{is_good_status};
 ghost use Rattle.hs_moments.specs.WholeMachine.{whole_machine};
+ghost use Rattle.hs_standing.specs.Copies.{IsSeated, KnowsItsCopies};
 ghost use Rattle.hs_standing.specs.Lists.{waiting};
 ghost use Rattle.hs_standing.specs.Stands.{GoodPeersCount, lists_of};
+
+/// A sane store of one copy a shard has its seats, and what is known of its copies is within their
+/// lists.
+pub fn a_sane_store_knows_its_copies()
+    ensures seated { (c : Whole) → IsSane c → IsSeated c.core }
+    ensures known { (c : Whole) → IsSane c → KnowsItsCopies c.core }
+{}
 
 /// Of a sane store each good peer's disk counts, and has all that took effect of its shard. Its lists
 /// are numbered from 1 on, without a Base, and what waits of a shard is what the core keeps of it.

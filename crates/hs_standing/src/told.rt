@@ -10,9 +10,12 @@ ghost use Rattle.hs_core_words.specs.State.{Core};
 ghost use Rattle.hs_core_words.specs.Step.{step};
 ghost use Rattle.hs_effects.specs.Logged.{MayBegin};
 ghost use Rattle.hs_events.specs.Asked.{addressed};
+ghost use Rattle.hs_events.specs.Course.{steps};
+ghost use Rattle.hs_events.specs.Due.{Events};
 ghost use Rattle.hs_events.specs.Sane.{IsSane};
 ghost use Rattle.hs_events.specs.Whole.{Whole};
 ghost use Rattle.hs_fold.specs.Runs.Facts.{Catalogue as Folded};
+ghost use Rattle.hs_standing.specs.Copies.{AllComeOn, IsSeated, KnowsItsCopies};
 ghost use Rattle.hs_standing.specs.Held.{GivesAddresses};
 ghost use Rattle.hs_journal.specs.Events.{client_op};
 ghost use Rattle.hs_laws.specs.Valid.{IsValid};
@@ -55,8 +58,11 @@ pub fn an_event_may_come_to_it()
 
 /// A core that opens stands for some folds, from the store of the folds with which it opened
 /// (`opens`), where these are of a lawful history. An event that may come leaves a core that
-/// stands, from the same store, for some folds (`event`): on a sane store of one copy a shard, where
-/// the root records and the Roots that wait are few, and the journal had room so far. Of a core that
+/// stands, from the same store, for some folds: on a sane store of one copy a shard, where the root
+/// records and the Roots that wait are few, and the journal had room so far (`event`); and for any
+/// number of copies, whatever is sent between them, of a core that goes on, with its seats, where what
+/// is known of copies is within their lists (`copies`). So a view that begins keeps it, which cuts a
+/// list and has operations start again; and some events do, one after another (`events`). Of a core that
 /// stands and has told an event whole, the journal, with what found it full, is a legal run
 /// of the plain store from that store on, with its answers, and leaves the store of the folds and the
 /// open sessions (`tells`).
@@ -71,6 +77,17 @@ pub fn each_event_is_told()
         → IsSane whole → HasRecordRoom whole.core → whole.core.refused ≡ []
         → MayStand by start event whole.core → IsStanding by start whole.core cs →
         (after : List Folded) × IsStanding by start (step event moment whole.core) after }
+    ensures copies { (by : Judging) (start : Store) (core : Core) (event : Event) (moment : ℕ)
+        (cs : List Folded)
+        → GivesAddresses by.name → IsValid start → core.ended ≡ None
+        → IsSeated core → KnowsItsCopies core → HasRecordRoom core → core.refused ≡ []
+        → MayStand by start event core → IsStanding by start core cs →
+        (after : List Folded) × IsStanding by start (step event moment core) after }
+    ensures events { (by : Judging) (start : Store) (core : Core) (events : Events)
+        (cs : List Folded)
+        → GivesAddresses by.name → IsValid start → core.refused ≡ [] → core.entries ≡ []
+        → AllComeOn (MayStand by start) core events → IsStanding by start core cs →
+        (after : List Folded) × IsStanding by start (steps core events) after }
     ensures tells { (by : Judging) (start : Store) (core : Core) (cs : List Folded)
         → IsStanding by start core cs → core.entries ≡ [] →
         Tells by start (told_of core) (store_with cs core.sessions) }

@@ -6,6 +6,7 @@ use Rattle.std.specs.BTreeMap.{insert_entry, is_at}
 use Rattle.std.specs.Map.{lookup, remove_entry, set_value}
 use Rattle.std.specs.Option.{option_map, option_map_or}
 use Rattle.std.specs.Ordering.{nat_cmp}
+use Rattle.hs_anatomy.proofs.AsideLemmas.{kept_propose, kept_with}
 use Rattle.hs_answered.proofs.CoreLemmas.{busy_step}
 use Rattle.hs_answered.proofs.CoreLemmas.{free_sees}
 use Rattle.hs_answered.proofs.RefusalLemmas.{IsNotBusy}
@@ -13,9 +14,10 @@ use Rattle.hs_answered.proofs.StepLemmas.{step_sees}
 use Rattle.hs_answered.specs.Asked.{busy_with, first_step}
 use Rattle.hs_awaiting.specs.declared.wait.Wait.TheVariants as wait
 use Rattle.hs_awaiting.specs.declared.waiting.Waiting.{Waiting}
+use Rattle.hs_awaiting.specs.Words.{change_with}
 use Rattle.hs_core_words.specs.Changing.{add_operation, put_operation}
 use Rattle.hs_core_words.specs.Looking.{group_of, lead_of, shape_of}
-use Rattle.hs_core_words.specs.Operating.{add_read, answer, begin_line, busy_line, take_step, what_holds}
+use Rattle.hs_core_words.specs.Operating.{add_read, answer, begin_line, busy_line, propose_entry, take_step, what_holds}
 use Rattle.hs_core_words.specs.Seeing.{view_for}
 use Rattle.hs_core_words.specs.State.{Core}
 use Rattle.hs_journal.specs.declared.entry.JournalEntry.{JournalEntry}
@@ -37,9 +39,9 @@ use Rattle.hs_ops.specs.Speaking.{judging_shard}
 use Rattle.hs_ops.specs.Views.{OpView}
 use Rattle.hs_replica.specs.Group.{last_number}
 use Rattle.hs_tokens.specs.Seats.{Seats, seat_of}
-use Rattle.hs_told.proofs.BesideLemmas.{beside_propose, beside_with}
 use Rattle.hs_told.proofs.BusyLemmas.{Busy, busy_from, free_from, unjudged_open, unjudged_refusal, unjudged_waits}
 use Rattle.hs_told.proofs.CalmLemmas.{sees_calm}
+use Rattle.hs_told.proofs.StirLemmas.{part_still}
 use Rattle.hs_told.proofs.DuringLemmas.{During, op_of}
 use Rattle.hs_told.proofs.OperationLemmas.{insert_apart, insert_here, insert_other, remove_apart, remove_here, remove_other, set_apart, set_here, set_other}
 use Rattle.hs_told.proofs.SeatLemmas.{Closes, seats_stay}
@@ -341,10 +343,10 @@ module _ (commands : ℕ → Option Command) (last line : ℕ) (o : Op) (x : Cor
     steps (step.Answer r) e = told_free r e
     steps (step.Propose entry) e =
         let u : Waiting = record w { operation = after_step (step.Propose entry) w.operation; wait = wait.Entry (last_number (group_of g with_it) + 1) } in
-        subst (λ q. During commands (line + 1) last q) (sym (beside_propose g entry (put_operation line u with_it))) (waiting u refl (λ r f. let h : step.Propose entry ≡ step.Answer r = sym e ∙ f in cc h))
+        subst (λ q. During commands (line + 1) last q) (sym (part_still (put_operation line u with_it) (propose_entry g entry (put_operation line u with_it)) (kept_propose g entry (put_operation line u with_it)))) (waiting u refl (λ r f. let h : step.Propose entry ≡ step.Answer r = sym e ∙ f in cc h))
     steps (step.Compare number) e =
         let u : Waiting = record w { operation = after_step (step.Compare number) w.operation; wait = wait.Bytes number } in
-        subst (λ q. During commands (line + 1) last q) (sym (beside_with (lead_of g with_it) (add_read number line) (put_operation line u with_it) (λ peer y. refl)))
+        subst (λ q. During commands (line + 1) last q) (sym (part_still (put_operation line u with_it) (change_with (lead_of g with_it) (add_read number line) (put_operation line u with_it)) (kept_with (lead_of g with_it) (add_read number line) (put_operation line u with_it) (λ peer y. refl))))
         (waiting u refl (λ r f. let h : step.Compare number ≡ step.Answer r = sym e ∙ f in cc h))
     steps step.Wait e =
         let u : Waiting = record w { operation = after_step step.Wait w.operation } in

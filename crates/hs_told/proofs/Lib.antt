@@ -1,6 +1,5 @@
 -- Lemmas, which crates above also cite.
 pub mod BeginLemmas
-pub mod BesideLemmas
 pub mod BusyLemmas
 pub mod BytesLemmas
 pub mod CalmLemmas

@@ -1,24 +1,17 @@
 -- A core that opens is in turn.
-use Rattle.std.proofs.Common.{◌≡◌, ℕ, [], Option, Some, None, not, refl, ap, ◌∙◌, arith}
-use Rattle.hs_core_words.specs.Changing.{note}
-use Rattle.hs_core_words.specs.Looking.{shape_of, shards_of, status_of}
-use Rattle.hs_core_words.specs.Opening.{Taken, begin_views, new_core, note_down, note_if_down, open_core}
+use Rattle.std.proofs.Common.{◌≡◌, ℕ, [], Option, Some, None, refl, ap, ◌∙◌, arith}
+use Rattle.hs_core_words.specs.Opening.{Taken, begin_views, new_core, note_down, open_core}
 use Rattle.hs_core_words.specs.State.{Core}
-use Rattle.hs_core_words.specs.Views.{change_view}
 use Rattle.hs_journal.specs.declared.entry.JournalEntry.{JournalEntry}
-use Rattle.hs_journal.specs.declared.entry.Who.TheVariants as who
 use Rattle.hs_journal.specs.Events.{client_op}
 use Rattle.hs_journal.specs.Order.{IsAt, IsOfLine, IsOrdered}
 use Rattle.hs_limits.specs.declared.limits.Limits.{Limits}
 use Rattle.hs_limits.specs.declared.shape.Shape.{Shape}
-use Rattle.hs_members.specs.Members.{all_peers, is_good_status}
 use Rattle.hs_model.specs.declared.command.Command.{Command}
-use Rattle.hs_model.specs.declared.deed.Deed.TheVariants as deed
 use Rattle.hs_model.specs.declared.op.Op.{Op}
-use Rattle.hs_model.specs.declared.reply.Reply.TheVariants as reply
 use Rattle.hs_told.proofs.DuringLemmas.{During, stirs}
 use Rattle.hs_told.proofs.OrderLemmas.{ended}
-use Rattle.hs_told.proofs.StirLemmas.{stays_change_view, stays_each, stays_if, store_only}
+use Rattle.hs_told.proofs.StirLemmas.{stays_open}
 use Rattle.hs_told.specs.InTurn.{IsInTurn}
 use Rattle.hs_told.specs.Part.{asking, part_of}
 use Rattle.hs_told.specs.Turns.{Turns}
@@ -72,11 +65,5 @@ opened_turn commands shape limits taken moment none = ended commands 0 (note_dow
       at = refl;
     }
 
-    viewed : During commands 1 0 (part_of (begin_views core))
-    viewed = stays_each (stirs commands 1 0) (shards_of core) change_view core (λ shard x q. stays_change_view (stirs commands 1 0) shard x q) new
-
     noted : During commands 1 0 (part_of (note_down (begin_views core)))
-    noted =
-        stays_each (stirs commands 1 0) (all_peers (shape_of (begin_views core))) note_if_down (begin_views core)
-        (λ peer x q. stays_if (stirs commands 1 0) (not (is_good_status (status_of peer x))) (note who.Store deed.Nothing (reply.Down peer 0)) x
-        (λ y k. (stirs commands 1 0).notes who.Store deed.Nothing (reply.Down peer 0) y (store_only (stirs commands 1 0)) k) q) viewed
+    noted = stays_open (stirs commands 1 0) core new

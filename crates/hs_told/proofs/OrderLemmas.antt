@@ -4,6 +4,7 @@ use Rattle.std.proofs.lemmas.Bool.{cases_eq}
 use Rattle.std.proofs.lemmas.Bool.Decides.{nat_tests}
 use Rattle.std.proofs.lemmas.List.{append-nil, append_assoc}
 use Rattle.std.specs.Prelude.{if◌then◌else◌}
+use Rattle.hs_anatomy.proofs.AsideLemmas.{kept_if}
 use Rattle.hs_answered.proofs.RefusalLemmas.{IsNotBusy, IsOfKind}
 use Rattle.hs_awaiting.specs.Words.{change_if}
 use Rattle.hs_core_words.specs.declared.event.Event.{Event}
@@ -14,7 +15,7 @@ use Rattle.hs_core_words.specs.Failing.{go_down}
 use Rattle.hs_core_words.specs.Joining.{start}
 use Rattle.hs_core_words.specs.Operating.{begin_line}
 use Rattle.hs_core_words.specs.State.{Core}
-use Rattle.hs_core_words.specs.Step.{begin_event, do_event, end_event, keep_entries, line_of, refuse_entries, run_event, step}
+use Rattle.hs_core_words.specs.Step.{begin_event, do_event, end_event, is_first_line, keep_entries, line_of, refuse_entries, run_event, step}
 use Rattle.hs_desk.specs.declared.fault.CoreFault.{CoreFault}
 use Rattle.hs_desk.specs.declared.fault.CoreFault.TheVariants as fault
 use Rattle.hs_journal.specs.declared.entry.JournalEntry.{JournalEntry}
@@ -30,9 +31,8 @@ use Rattle.hs_model.specs.Refusals.{first, refused_when}
 use Rattle.hs_post.specs.declared.message.Message.{Message}
 use Rattle.hs_post.specs.Pool.{is_full, message_at, restart_numbers}
 use Rattle.hs_told.proofs.BeginLemmas.{begins, said_is}
-use Rattle.hs_told.proofs.BesideLemmas.{beside_if}
 use Rattle.hs_told.proofs.DuringLemmas.{During, stirs}
-use Rattle.hs_told.proofs.StirLemmas.{Stirs, stays_deliver, stays_down, stays_lose, stays_nudge, stays_report, stays_start}
+use Rattle.hs_told.proofs.StirLemmas.{Stirs, part_still, stays_event}
 use Rattle.hs_told.proofs.TurnLemmas.{turns_later, turns_now, turns_raised}
 use Rattle.hs_told.specs.InTurn.{AllMayCome, ClientMay, IsInTurn, MayBegin, MayCome, OtherMay, after_all, message_refusal, refusal_in, repeat_refusal}
 use Rattle.hs_told.specs.Part.{Part, asking, part_of}
@@ -43,6 +43,9 @@ use Rattle.hs_told.specs.Turns.{Turns}
 abbrev pub IsOther : Event → Type 0
 IsOther (event.Line line o) = ⊥
 IsOther other = Unit {0}
+
+no_line : (e : Event) → IsOther e → (line : ℕ) (o : Op) → e ≡ event.Line line o → ⊥
+no_line e other line o is = subst (λ x. IsOther x) is other
 
 refused_unless : (line : ℕ) (rows : List (Option Reply)) (f : Core → Core) (c : Core) (r : Reply) → first rows ≡ Some r → unless_refused line rows f c ≡ refuse line r c
 refused_unless line rows f c r e = rw e refl
@@ -115,46 +118,16 @@ refusal_calm (event.Nudge line peer) c = two_calm _ _ (reply.NoPeer peer) (reply
 refusal_calm (event.Fail line peer) c = two_calm _ _ (reply.NoPeer peer) (reply.NotUp peer) tt tt
 refusal_calm (event.Start line peer) c = two_calm _ _ (reply.NoPeer peer) (reply.NotDown peer) tt tt
 
--- one that is not refused
-module _ {P : Core → Type 0} (S : Stirs P) where
-  allowed_stays : (line : ℕ) (rows : List (Option Reply)) (f : Core → Core) (c : Core) → first rows ≡ None → ((x : Core) → P x → P (f x)) → P c → P (unless_refused line rows f c)
-  allowed_stays line rows f c e h p = subst (λ x. P x) (sym (allowed_unless line rows f c e)) (h c p)
-
-  message_stays : (line number : ℕ) (f : Message → Core → Core) (c : Core) → message_refusal number (message_at number c.pool) ≡ None → ((m : Message) (x : Core) → P x → P (f m x)) → P c → P (with_message line number f c)
-  message_stays line number f c e h p = go (message_at number c.pool) refl e
-    where
-      go : (m : Option Message) → message_at number c.pool ≡ m → message_refusal number m ≡ None → P (with_message line number f c)
-      go None k l = absurd (cc l)
-      go (Some m) k l = rw k (h m c p)
-
-  repeat_stays : (line number : ℕ) (c : Core) → repeat_refusal number c (message_at number c.pool) ≡ None → P c → P (with_message line number (send_again line) c)
-  repeat_stays line number c e p = go (message_at number c.pool) refl e
-    where
-      by_room : (m : Message) (b : Bool) → is_full c.pool ≡ b → (if b then Some (reply.PoolFull c.pool.limit) else None) ≡ None → P (send_again line m c)
-      by_room m true h k = absurd (cc k)
-      by_room m false h k = rw h (S.beside c _ refl p)
-
-      go : (m : Option Message) → message_at number c.pool ≡ m → repeat_refusal number c m ≡ None → P (with_message line number (send_again line) c)
-      go None k l = absurd (cc l)
-      go (Some m) k l = rw k (by_room m (is_full c.pool) refl l)
-
-  pub event_stays : (e : Event) (c : Core) → IsOther e → refusal_in e c ≡ None → P c → P (do_event e c)
-  event_stays (event.Line line o) c other e p = absurd other
-  event_stays (event.Report peer d) c other e p = stays_report S peer d c p
-  event_stays (event.Turn line peer) c other e p = allowed_stays line (no_peer peer c ∷ not_up peer c ∷ []) (λ x. x) c e (λ x q. q) p
-  event_stays (event.Deliver line number) c other e p = message_stays line number (deliver number) c e (λ m x q. stays_deliver S number m x q) p
-  event_stays (event.Lose line number) c other e p = message_stays line number (lose number) c e (λ m x q. stays_lose S number m x q) p
-  event_stays (event.Repeat line number) c other e p = repeat_stays line number c e p
-  event_stays (event.Nudge line peer) c other e p = allowed_stays line (no_peer peer c ∷ not_up peer c ∷ []) (nudge_good peer) c e (λ x q. stays_nudge S peer x q) p
-  event_stays (event.Fail line peer) c other e p = allowed_stays line (no_peer peer c ∷ not_up peer c ∷ []) (go_down peer) c e (λ x q. stays_down S peer x q) p
-  event_stays (event.Start line peer) c other e p = allowed_stays line (no_peer peer c ∷ not_down peer c ∷ []) (start peer) c e (λ x q. stays_start S peer x q) p
+-- an event that is no client's line and is not refused
+pub event_stays : {P : Core → Type 0} → Stirs P → (e : Event) (c : Core) → IsOther e → refusal_in e c ≡ None → P c → P (do_event e c)
+event_stays S e c other none p = stays_event S e c (no_line e other) none p
 
 -- ---- an event begins
 
 begun_part : (line moment : ℕ) (core : Core) → part_of (begin_event line moment core) ≡ record (part_of core) { moment = moment; event_line = if line == 0 then core.progress.event_line else line }
 begun_part line moment core =
     ap (λ (p : Part). record p { moment = moment; event_line = if line == 0 then core.progress.event_line else line })
-    (beside_if _ (change_pool restart_numbers) core (λ x. refl))
+    (part_still core (is_first_line line core) (kept_if _ (change_pool restart_numbers) core (λ x. refl)))
 
 pub same_refusal : (e : Event) (line moment : ℕ) (core : Core) → refusal_in e (begin_event line moment core) ≡ refusal_in e core
 same_refusal e line moment core = go _ e
@@ -243,7 +216,7 @@ module _ (commands : ℕ → Option Command) where
 
     report_turn : (e : Event) → IsOther e → line_of e ≡ 0 → refusal_in e core ≡ None → IsInTurn commands (run_event e moment core)
     report_turn e other zero free =
-        ended core.progress.event_line (do_event e (begin_event (line_of e) moment core)) (event_stays (stirs commands (core.progress.event_line + 1) core.progress.event_line) e (begin_event (line_of e) moment core) other
+        ended core.progress.event_line (do_event e (begin_event (line_of e) moment core)) (stays_event (stirs commands (core.progress.event_line + 1) core.progress.event_line) e (begin_event (line_of e) moment core) (no_line e other)
         (same_refusal e (line_of e) moment core ∙ free)
         (started (core.progress.event_line + 1) core.progress.event_line (line_of e) (omega arith) (λ k low high. absurd (omega (arith, low, high))) (ap (λ line. if line == 0 then core.progress.event_line else line) zero)))
 
@@ -263,7 +236,7 @@ module _ (commands : ℕ → Option Command) where
 
         by_refusal : (r : Option Reply) → refusal_in e core ≡ r → IsInTurn commands (run_event e moment core)
         by_refusal None free =
-            ended line (do_event e x) (event_stays (stirs commands (line + 1) line) e x other (same_refusal e line moment core ∙ free)
+            ended line (do_event e x) (stays_event (stirs commands (line + 1) line) e x (no_line e other) (same_refusal e line moment core ∙ free)
             (started (line + 1) line line (let u : core.progress.event_line ≤ line = may.upward in omega (arith, u)) nobody (line_is line may.upward)))
         by_refusal (Some r) stops = elim may.once [
           | inl above ↦ subst (λ c. IsInTurn commands (end_event c)) (sym (refused_does e x r (same_refusal e line moment core ∙ stops))) (ended line (refuse line r x) (refused above.0 above.1))

@@ -1,9 +1,9 @@
 -- A core whose answers are in order, and events that may come next.
-use Rattle.std.specs.Prelude.{◌≡◌, ◌⊎◌, ℕ, ◌+◌, ◌<◌, ◌≤◌, ◌++◌, List, [], ◌∷◌, Option, Some, None, IsSome, if◌then◌else◌}
+use Rattle.std.specs.Prelude.{◌≡◌, ◌⊎◌, ℕ, ◌+◌, ◌<◌, ◌≤◌, ◌++◌, List, [], ◌∷◌, Option, Some, None, IsSome}
 use Rattle.std.specs.Option.{option_map}
+pub use Rattle.hs_anatomy.specs.Refusing.{message_refusal, refusal_in, repeat_refusal}
 use Rattle.hs_core_words.specs.declared.event.Event.{Event}
 use Rattle.hs_core_words.specs.declared.event.Event.TheVariants as event
-use Rattle.hs_core_words.specs.Asking.{no_peer, not_down, not_up}
 use Rattle.hs_core_words.specs.State.{Core}
 use Rattle.hs_core_words.specs.Step.{line_of, step}
 use Rattle.hs_journal.specs.declared.entry.JournalEntry.{JournalEntry}
@@ -12,11 +12,6 @@ use Rattle.hs_journal.specs.Order.{IsOrdered, session_of}
 use Rattle.hs_model.specs.declared.command.Command.{Command}
 use Rattle.hs_model.specs.declared.op.Op.{Op}
 use Rattle.hs_model.specs.declared.op.Op.TheVariants as op
-use Rattle.hs_model.specs.declared.reply.Reply.{Reply}
-use Rattle.hs_model.specs.declared.reply.Reply.TheVariants as reply
-use Rattle.hs_model.specs.Refusals.{first}
-use Rattle.hs_post.specs.declared.message.Message.{Message}
-use Rattle.hs_post.specs.Pool.{is_full, message_at}
 use Rattle.hs_tokens.specs.Seats.{seat_of}
 use Rattle.hs_told.specs.Apart.{Apart}
 use Rattle.hs_told.specs.Part.{asking}
@@ -43,26 +38,6 @@ pub record IsInTurn (commands : ℕ → Option Command) (core : Core) : Type 0 w
 abbrev pub bare : Op → Op
 bare (op.Write name payload handles address) = op.Write name payload handles None
 bare other = other
-
--- why a line that is no client's is refused
-abbrev pub message_refusal : ℕ → Option Message → Option Reply
-message_refusal number None = Some (reply.NoMessage number)
-message_refusal number (Some m) = None
-
-abbrev pub repeat_refusal : ℕ → Core → Option Message → Option Reply
-repeat_refusal number core None = Some (reply.NoMessage number)
-repeat_refusal number core (Some m) = if is_full core.pool then Some (reply.PoolFull core.pool.limit) else None
-
-abbrev pub refusal_in : Event → Core → Option Reply
-refusal_in (event.Line line o) core = None
-refusal_in (event.Report peer d) core = None
-refusal_in (event.Turn line peer) core = first (no_peer peer core ∷ not_up peer core ∷ [])
-refusal_in (event.Deliver line number) core = message_refusal number (message_at number core.pool)
-refusal_in (event.Lose line number) core = message_refusal number (message_at number core.pool)
-refusal_in (event.Repeat line number) core = repeat_refusal number core (message_at number core.pool)
-refusal_in (event.Nudge line peer) core = first (no_peer peer core ∷ not_up peer core ∷ [])
-refusal_in (event.Fail line peer) core = first (no_peer peer core ∷ not_up peer core ∷ [])
-refusal_in (event.Start line peer) core = first (no_peer peer core ∷ not_down peer core ∷ [])
 
 -- no client's line lies between the last line and this one
 abbrev pub NoneBetween : (ℕ → Option Command) → Core → ℕ → Type 0

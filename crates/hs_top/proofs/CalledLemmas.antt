@@ -33,6 +33,11 @@ written_back {X} n new old same all =
     ∙ ap (λ (ys : List X). take n ys) (and_none new)
     ∙ take_all n new (omega (arith, same, all))
 
+-- so what is of the slice before and behind is of the vector
+pub of_vector : {X : Type 0} (P : List X → List X → Type 0) (n : ℕ) (slice old left : List X) → slice ≡ old → length left ≡ length slice → length slice ≡ n → P slice left → P old (take n (left ++ drop (length left) old))
+of_vector {X} P n slice old left all same long holds =
+    subst (λ (disks : List X). P disks (take n (left ++ drop (length left) disks))) all (subst (λ (disks : List X). P slice disks) (sym (written_back n left slice same long)) holds)
+
 -- ---- a call
 
 none_there : {T : Type 0} (o : Option T) (x : T) → o ≡ None → o ≡ Some x → ⊥

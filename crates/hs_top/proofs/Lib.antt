@@ -1,6 +1,11 @@
+pub mod AgainLemmas
 pub mod CalledLemmas
+pub mod EndLemmas
+pub mod LaterLemmas
 pub mod LawLemmas
 pub mod LimitLemmas
+pub mod LoadEndLemmas
+pub mod LoadLemmas
 pub mod NoteLemmas
 pub mod PastLemmas
 pub mod PromisedLemmas

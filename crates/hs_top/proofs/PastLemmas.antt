@@ -26,7 +26,7 @@ closed_past (status.NotATree address) e p = cc e
 closed_past (status.NoSource peer) e p = cc p
 closed_past (status.CopyFull blocks) e p = cc e
 
-wanting_past : (st : Status) → (ending_of st).wanting ≡ true → (ending_of st).past ≡ true → ⊥
+pub wanting_past : (st : Status) → (ending_of st).wanting ≡ true → (ending_of st).past ≡ true → ⊥
 wanting_past status.NoMemory e p = cc p
 wanting_past status.Usage e p = cc e
 wanting_past (status.WrongShape peer found) e p = cc e

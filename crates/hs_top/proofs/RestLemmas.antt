@@ -9,7 +9,7 @@ use Rattle.hs_fold.specs.Shards.Images.{Image, IsBlank}
 use Rattle.hs_fold.specs.Shards.Setting.{Numbered}
 use Rattle.hs_peerlog.proofs.ImageLemmas.{image-is, list-same}
 use Rattle.hs_ports.specs.declared.disk.Side.{Side}
-use Rattle.hs_ports.specs.Disk.{Standing, settled}
+use Rattle.hs_ports.specs.Disk.{IsImage, Loose, Standing, settled}
 use Rattle.hs_ports.specs.Moments.{disk_at}
 use Rattle.hs_promise.specs.Entry.{MayStop, entry_logs, is_aside, logs_from}
 use Rattle.hs_promise.specs.Run.{Ran, Script}
@@ -18,7 +18,7 @@ use Rattle.hs_side.proofs.BlankLemmas.{blank_log}
 use Rattle.hs_side.specs.Current.{current, list_in}
 use Rattle.hs_side.specs.Reading.{listed}
 use Rattle.hs_sound.specs.Stay.{AreSoundAlong}
-use Rattle.hs_top.specs.Rest.{AreAtRest}
+use Rattle.hs_top.specs.Rest.{AreAtRest, HasOneList, IsAtRest}
 
 -- ---- disks at rest, whose lists are sound
 
@@ -31,6 +31,19 @@ rest_may S r image rest sound = record {
   where
     still : (peer : ℕ) (side : Side) → (disk_at r.old.disks peer).loose side ≡ settled ((disk_at r.old.disks peer).seen side)
     still peer side = (rest.each peer).loose side ∙ ap (λ (bytes : List ℕ). settled bytes) (sym ((rest.each peer).seen side))
+
+-- a disk at rest has one list
+settled_image : (bytes : List ℕ) → IsImage (settled bytes) bytes
+settled_image bytes = record { no_shorter = omega arith; no_longer = omega arith; kept = λ i low out. refl }
+
+pub rest_one : (image : Image) (moment : ℕ) (disk : Standing) → IsAtRest image moment disk → HasOneList disk
+rest_one image moment disk rest = record {
+  seen = λ side. subst (λ (loose : Loose). IsImage loose (disk.seen side)) (sym (still side)) (settled_image (disk.seen side));
+  one = λ left images. list-same disk.seen left (image-is disk left still images);
+}
+  where
+    still : (side : Side) → disk.loose side ≡ settled (disk.seen side)
+    still side = rest.loose side ∙ ap (λ (bytes : List ℕ). settled bytes) (sym (rest.seen side))
 
 -- ---- blank disks
 
@@ -92,12 +105,15 @@ logs_are S r peer (disk ∷ disks) (image ∷ images) same none h =
     ∙ ap (λ (log : Option Numbered). log ∷ logs_from S r (peer + 1) disks) (list-same image disk.seen (λ side. h 0 side))
     ∙ ap (λ (logs : List (Option Numbered)). list_in image ∷ logs) (logs_are S r (peer + 1) disks images (omega (arith, same)) (λ p low. none p (omega (arith, low))) (λ k side. h (suc k) side))
 
+pub stopped_sound : (S : Script) (r : Ran) (images : List Image) → AreSoundAlong S.set (taken_lists S.set.shape (image_logs images)) → ((k : ℕ) (side : Side) → (disk_at r.old.disks k).seen side ≡ image_at images k side)
+    → length r.old.disks ≡ length images → ((peer : ℕ) → peer < length r.old.disks → is_aside S r peer ≡ false) → AreSoundAlong S.set (taken_lists S.set.shape (entry_logs S r))
+stopped_sound S r images sound seen same none =
+    subst (λ (logs : List (Option Numbered)). AreSoundAlong S.set (taken_lists S.set.shape logs)) (sym (logs_are S r 0 r.old.disks images same (λ p low. none p (omega (arith, low))) seen)) sound
+
 pub stopped_may : (S : Script) (r : Ran) (images : List Image) → AreSoundAlong S.set (taken_lists S.set.shape (image_logs images)) → AreAtRest (λ peer. image_at images peer) r.old
     → length r.old.disks ≡ length images → ((peer : ℕ) → peer < length r.old.disks → is_aside S r peer ≡ false) → MayStop S r
 stopped_may S r images sound rest same none =
-    rest_may S r (λ peer. image_at images peer) rest
-    (subst (λ (logs : List (Option Numbered)). AreSoundAlong S.set (taken_lists S.set.shape logs))
-    (sym (logs_are S r 0 r.old.disks images same (λ p low. none p (omega (arith, low))) (λ k side. (rest.each k).seen side))) sound)
+    rest_may S r (λ peer. image_at images peer) rest (stopped_sound S r images sound (λ k side. (rest.each k).seen side) same none)
 
 -- ---- what a stop left of one shard of one copy
 
@@ -129,10 +145,10 @@ first_is S r (disk ∷ disks) (image ∷ images) same h = go (is_aside S r 0) re
         (ap (λ (b : Bool). unwrap_or (if b then None else list_in disk.seen) [] ∷ []) e
         ∙ ap (λ (log : Option Numbered). unwrap_or log [] ∷ []) (list-same image disk.seen (λ side. h 0 side)))
 
-pub alone_may : (S : Script) (r : Ran) (images : List Image) → S.set.shape.shards ≡ 1 → S.set.shape.copies ≡ 1 → AreSoundAlong S.set (replicate S.set.shape.shards [])
-    → AreSoundAlong S.set (taken_lists S.set.shape (image_logs images)) → AreAtRest (λ peer. image_at images peer) r.old → length r.old.disks ≡ length images → MayStop S r
-alone_may S r images shards copies blank sound rest same =
-    rest_may S r (λ peer. image_at images peer) rest (go (first_is S r r.old.disks images same (λ k side. (rest.each k).seen side)))
+pub alone_sound : (S : Script) (r : Ran) (images : List Image) → S.set.shape.shards ≡ 1 → S.set.shape.copies ≡ 1 → AreSoundAlong S.set (replicate S.set.shape.shards [])
+    → AreSoundAlong S.set (taken_lists S.set.shape (image_logs images)) → ((k : ℕ) (side : Side) → (disk_at r.old.disks k).seen side ≡ image_at images k side) → length r.old.disks ≡ length images
+    → AreSoundAlong S.set (taken_lists S.set.shape (entry_logs S r))
+alone_sound S r images shards copies blank sound seen same = go (first_is S r r.old.disks images same seen)
   where
     taken : taken_lists S.set.shape (entry_logs S r) ≡ chosen (take 1 (or_blank (entry_logs S r))) ∷ []
     taken = one_taken S (entry_logs S r) shards copies
@@ -148,3 +164,8 @@ alone_may S r images shards copies blank sound rest same =
         ∙ ap (λ (lists : List Numbered). chosen lists ∷ []) empty
         ∙ ap (λ (list : Numbered). list ∷ []) (chosen_empty ([] ∷ []) (refl, tt))
         ∙ sym (ap blank_lists shards))) blank
+
+pub alone_may : (S : Script) (r : Ran) (images : List Image) → S.set.shape.shards ≡ 1 → S.set.shape.copies ≡ 1 → AreSoundAlong S.set (replicate S.set.shape.shards [])
+    → AreSoundAlong S.set (taken_lists S.set.shape (image_logs images)) → AreAtRest (λ peer. image_at images peer) r.old → length r.old.disks ≡ length images → MayStop S r
+alone_may S r images shards copies blank sound rest same =
+    rest_may S r (λ peer. image_at images peer) rest (alone_sound S r images shards copies blank sound (λ k side. (rest.each k).seen side) same)

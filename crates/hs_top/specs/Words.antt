@@ -7,10 +7,18 @@ use Rattle.hs_script.specs.declared.invocation.Invocation.{Invocation}
 use Rattle.hs_script.specs.declared.invocation.Task.{Task}
 use Rattle.hs_script.specs.declared.invocation.Task.TheVariants as task
 
--- what is served so far: a script without --visits and --cache, an audit, a scrub
+-- a load is asked for
+abbrev pub is_load_task : Task → Bool
+is_load_task (task.Load seed writers files) = true
+is_load_task other = false
+
+-- what is served so far: a script without --visits and --cache, a load, an audit, a scrub, and storing and fetching a file
 abbrev pub is_served : Task → Bool
 is_served (task.Script limits None None) = true
+is_served (task.Load seed writers files) = true
 is_served task.Audit = true
+is_served (task.Store key) = true
+is_served (task.Fetch key) = true
 is_served (task.Scrub from) = true
 is_served other = false
 

@@ -1,19 +1,22 @@
 //! The top call.
-ghost use Rattle.std.specs.Prelude.{◌≡◌, ◌*◌, false, length, map, string_bytes, true, ℕ, Option};
+ghost use Rattle.std.specs.Prelude.{◌≡◌, ◌*◌, false, length, map, string_bytes, true, vec_len, ℕ, Option};
 ghost use Rattle.hs_limits.specs.Shape.{IsShape};
 ghost use Rattle.hs_model.specs.declared.command.Command.{Command};
 ghost use Rattle.hs_ports.specs.Objects.{handed};
 ghost use Rattle.hs_promise.specs.Run.{ran_of, script_of};
 ghost use Rattle.hs_top.specs.Calls.{Does, IsCalled, RunsSo};
-ghost use Rattle.hs_top.specs.Words.{is_load, is_served};
+ghost use Rattle.hs_top.specs.Words.{is_load, is_load_task, is_served};
 ghost use Rattle.hs_wanted.specs.Asked.{IsTask};
 
-use crate::words::served_on;
+use crate::files::{give_file, keep_file};
+use crate::load::load_with;
+use crate::words::{is_load, served_on};
 use hs_block::Addresser;
 use hs_checks::{run_audit, run_scrub};
 use hs_clauses::{
     a_run_is_answered, a_run_keeps, a_run_may_stop, a_run_stands, what_is_read_is_sealed,
 };
+use hs_desk::OpenGate;
 use hs_limits::{Limits, Shape};
 use hs_ports::{Disk, Sink, Source, Watch};
 use hs_promise::{Outcome, Status};
@@ -76,43 +79,53 @@ fn run_script<A: Addresser, S: Source, K: Sink, D: Disk>(
 }
 
 /// Does what is asked for, which is served.
-fn do_task<A: Addresser, S: Source, K: Sink, D: Disk>(
+fn do_task<A: Addresser, S: Source, K: Sink, D: Disk + Drop>(
     alloc: Global,
     shape: Shape,
     task: &Task<'_>,
     naming: &A,
     source: &mut S,
     sink: &mut K,
-    disks: &mut [D],
+    disks: &mut Vec<D>,
     watch: &mut Watch,
 ) -> Outcome
     requires shape { IsShape shape }
     requires served { is_served task.now ≡ true }
     requires task { IsTask shape task.now }
-    requires count { length disks.old ≡ shape.shards * shape.copies }
+    requires alone { is_load_task task.now ≡ false }
+    requires count { vec_len disks.old ≡ shape.shards * shape.copies }
     ensures does { Does D.tells (A.name naming.now) shape task.now
         (ran_of result
-        (handed watch.old (map (λ disk. (D.stands disk, D.faults disk)) disks.old)
+        (handed watch.old (map (λ disk. (D.stands disk, D.faults disk)) disks.old.items)
         (K.got sink.old, K.faults sink.old) (S.left source.old, S.faults source.old))
-        (handed watch.new (map (λ disk. (D.stands disk, D.faults disk)) disks.new)
+        (handed watch.new (map (λ disk. (D.stands disk, D.faults disk)) disks.new.items)
         (K.got sink.new, K.faults sink.new) (S.left source.new, S.faults source.new))) }
     ensures begun { result.status ≡ Status.Usage → ⊥ }
 {
     match task {
         Task::Script { limits, .. } => {
-            run_script(alloc, shape, *limits, naming, source, sink, disks, watch)
+            let handed = disks.as_mut_slice();
+            run_script(alloc, shape, *limits, naming, source, sink, handed, watch)
         }
-        Task::Audit => run_audit(alloc, naming, shape, sink, disks, watch),
-        Task::Scrub { from } => run_scrub(alloc, shape, *from, sink, disks, watch),
-        Task::Load { .. } | Task::Store { .. } | Task::Fetch { .. } | Task::Copy { .. } => closed(
-            alloc,
-            Status::Usage,
-            0,
-        ),
+        Task::Audit => {
+            let handed = disks.as_mut_slice();
+            run_audit(alloc, naming, shape, sink, handed, watch)
+        }
+        Task::Scrub { from } => {
+            let handed = disks.as_mut_slice();
+            run_scrub(alloc, shape, *from, sink, handed, watch)
+        }
+        Task::Store { key } => {
+            keep_file(alloc, naming, shape, key.as_slice(), source, disks, watch)
+        }
+        Task::Fetch { key } => {
+            give_file(alloc, naming, shape, key.as_slice(), sink, disks, watch)
+        }
+        Task::Load { .. } | Task::Copy { .. } => closed(alloc, Status::Usage, 0),
     }
 }
 
-/// Does what the words ask for.
+/// Does what the words ask for, which is no load.
 fn run_words<A: Addresser, S: Source, K: Sink, D: Disk + Drop>(
     alloc: Global,
     words: &[String],
@@ -122,6 +135,7 @@ fn run_words<A: Addresser, S: Source, K: Sink, D: Disk + Drop>(
     disks: &mut Vec<D>,
     watch: &mut Watch,
 ) -> Outcome
+    requires alone { is_load (map (λ word. string_bytes word) words.now) ≡ false }
     ensures called { IsCalled D.tells (A.name naming.now) (map (λ word. string_bytes word) words.now)
         (ran_of result
         (handed watch.old (map (λ disk. (D.stands disk, D.faults disk)) disks.old.items)
@@ -130,19 +144,16 @@ fn run_words<A: Addresser, S: Source, K: Sink, D: Disk + Drop>(
         (K.got sink.new, K.faults sink.new) (S.left source.new, S.faults source.new))) }
 {
     match served_on(words, disks.len()) {
-        Some(asked) => {
-            let handed = disks.as_mut_slice();
-            do_task(
-                alloc,
-                asked.shape,
-                &asked.task,
-                naming,
-                source,
-                sink,
-                handed,
-                watch,
-            )
-        }
+        Some(asked) => do_task(
+            alloc,
+            asked.shape,
+            &asked.task,
+            naming,
+            source,
+            sink,
+            disks,
+            watch,
+        ),
         None => closed(alloc, Status::Usage, 0),
     }
 }
@@ -150,9 +161,10 @@ fn run_words<A: Addresser, S: Source, K: Sink, D: Disk + Drop>(
 /// Does every command but `load`, and waits for nobody. So far these are `script DIR G R` with its
 /// options, which runs the script that the source has on the disks of a store, one for each peer, and
 /// puts what is answered into the sink; `audit DIR G R`, which puts there what the logs of a store
-/// amount to; and `scrub DIR G R`, which puts there whether the copies of each shard agree, and with
-/// `--from P` copies the list of a peer over the others of its shard. Other words are a faulty command
-/// line.
+/// amount to; `scrub DIR G R`, which puts there whether the copies of each shard agree, and with
+/// `--from P` copies the list of a peer over the others of its shard; `store DIR G R KEY`, which stores
+/// what the source has as a file under a key; and `fetch DIR G R KEY`, which puts the file of a key into
+/// the sink. Other words are a faulty command line.
 pub fn hydra_alone<A: Addresser, S: Source, K: Sink, D: Disk + Drop>(
     alloc: Global,
     words: &[String],
@@ -173,7 +185,8 @@ pub fn hydra_alone<A: Addresser, S: Source, K: Sink, D: Disk + Drop>(
     run_words(alloc, words, naming, source, sink, disks, watch)
 }
 
-/// Does a command. `load` is a faulty command line so far; every other command is `hydra_alone`'s.
+/// Does a command. `load DIR G R` with its options is `load_with`'s, over a gate that does nothing, and
+/// may wait for ever; every other command is `hydra_alone`'s.
 pub fn hydra<
     H: Threads + Wait + Sync,
     A: Addresser + Sync,
@@ -182,7 +195,7 @@ pub fn hydra<
     D: Disk + Drop + Send,
 >(
     alloc: Global,
-    _rt: &H,
+    rt: &H,
     words: &[String],
     naming: &A,
     source: &mut S,
@@ -197,5 +210,9 @@ pub fn hydra<
         (handed watch.new (map (λ disk. (D.stands disk, D.faults disk)) disks.new.items)
         (K.got sink.new, K.faults sink.new) (S.left source.new, S.faults source.new))) }
 {
-    run_words(alloc, words, naming, source, sink, disks, watch)
+    if is_load(words) {
+        load_with(alloc, rt, words, naming, sink, disks, watch, &OpenGate)
+    } else {
+        run_words(alloc, words, naming, source, sink, disks, watch)
+    }
 }

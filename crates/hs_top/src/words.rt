@@ -1,7 +1,7 @@
 //! The words of the command line.
 ghost use Rattle.std.specs.Prelude.{◌≡◌, IfSome, map, string_bytes, true};
 ghost use Rattle.hs_script.specs.CommandLine.{disks_of};
-ghost use Rattle.hs_top.specs.Words.{is_load, is_served, served_on, shape_in};
+ghost use Rattle.hs_top.specs.Words.{is_load, is_load_task, is_served, served_on, shape_in};
 ghost use Rattle.hs_wanted.specs.Asked.{IsInvocation};
 
 use hs_limits::Shape;
@@ -27,6 +27,8 @@ pub(crate) fn served_on<'a>(words: &'a [String], disks: usize) -> Option<Invocat
     ensures bounds { IfSome result IsInvocation }
     ensures count { IfSome result (λ asked. disks ≡ disks_of asked) }
     ensures served { IfSome result (λ asked. is_served asked.task ≡ true) }
+    ensures load { IfSome result (λ asked.
+        is_load (map (λ word. string_bytes word) words.now) ≡ is_load_task asked.task) }
 {
     let asked = invocation_on(words, disks)?;
     if is_served(&asked.task) {
@@ -46,13 +48,12 @@ fn is_served(task: &Task<'_>) -> bool
             visits: None,
             cache: None,
         }
-        | Task::Audit
-        | Task::Scrub { .. } => true,
-        Task::Script { .. }
         | Task::Load { .. }
+        | Task::Audit
         | Task::Store { .. }
         | Task::Fetch { .. }
-        | Task::Copy { .. } => false,
+        | Task::Scrub { .. } => true,
+        Task::Script { .. } | Task::Copy { .. } => false,
     }
 }
 

@@ -1,17 +1,17 @@
 -- A gathered file is finished: its top is the only block that is held.
 use Rattle.std.proofs.Common.{◌≡◌, ◌⊎◌, inl, inr, ℕ, ◌+◌, ◌*◌, ◌-◌, ◌<◌, ◌≤◌, List, [], ◌∷◌, ◌++◌, zero, suc, refl, sym, ap, ◌∙◌, subst, length, arith, append-nil, length-append}
-use Rattle.std.specs.List.{concat}
+use Rattle.std.specs.List.{concat, flat_map}
 use Rattle.hs_asking.specs.Shown.{Shown}
 use Rattle.hs_limits.specs.declared.address.Address.{Address}
 use Rattle.hs_tree.proofs.RunsLemmas.{concat-last, full_cut_last, height-0, height-1, height-2, length-full, runs-concat, span-0, span-1}
 use Rattle.hs_tree.proofs.StoreLemmas.{no_length, places-count, places-last}
-use Rattle.hs_tree.specs.Growing.{HasTop, IsGrown, places_at, run_at}
+use Rattle.hs_tree.specs.Growing.{HasTop, IsGrown, places_at, run_at, tree_below}
 use Rattle.hs_tree.specs.Steps.{IsRun}
 use Rattle.hs_tree.specs.Storing.{IsCut, IsGathered}
-use Rattle.hs_tree.specs.Trees.{height, runs, stored_cut}
+use Rattle.hs_tree.specs.Trees.{height, runs, stored_cut, tree_of}
 use Rattle.hs_tree.specs.declared.grow.Node.{Node}
 
-cut-most : (n : ℕ) (cs : List (List ℕ)) → IsCut n cs → length (concat cs) ≤ n * length cs
+pub cut-most : (n : ℕ) (cs : List (List ℕ)) → IsCut n cs → length (concat cs) ≤ n * length cs
 cut-most n [] h = omega arith
 cut-most n (c ∷ []) h =
     let k : length c ≤ n = h.1 in
@@ -23,7 +23,7 @@ cut-most n (c ∷ d ∷ cs) h =
     let e : length (c ++ concat (d ∷ cs)) ≡ length c + length (concat (d ∷ cs)) = length-append c (concat (d ∷ cs)) in
     omega (arith, k, rest, e)
 
-cut-some : (n : ℕ) (cs : List (List ℕ)) → 0 < n → IsCut n cs → 0 < length cs → 0 < length (concat cs)
+pub cut-some : (n : ℕ) (cs : List (List ℕ)) → 0 < n → IsCut n cs → 0 < length cs → 0 < length (concat cs)
 cut-some n [] p h l = absurd (omega (arith, l))
 cut-some n (c ∷ []) p h l =
     let k : 0 < length c = h.0 in
@@ -43,7 +43,7 @@ cut-more n (c ∷ d ∷ cs) p h l =
     let e : length (c ++ concat (d ∷ cs)) ≡ length c + length (concat (d ∷ cs)) = length-append c (concat (d ∷ cs)) in
     omega (arith, k, rest, e)
 
-module _ (name : List ℕ → Address) (session : List ℕ) (start old : Shown) (upper lower : List Node) (file : List ℕ) (g : IsGathered name session start old upper lower file) (fits : length file ≤ 67108864) where
+module _ {tells : Type 0} (name : List ℕ → Address) (session : List ℕ) (start old : Shown tells) (upper lower : List Node) (file : List ℕ) (g : IsGathered name session start old upper lower file) (fits : length file ≤ 67108864) where
   pub counted_tops : length file ≡ 4194304 * length g.tops + length (concat g.pieces)
   counted_tops =
       let t : length (concat g.tops) ≡ 4194304 * length g.tops = length-full 4194304 g.tops g.full_tops in
@@ -92,8 +92,35 @@ module _ (name : List ℕ → Address) (session : List ℕ) (start old : Shown) 
     abbrev pub tops : List (List ℕ)
     tops = g.tops ++ concat g.pieces ∷ []
 
+    whole_tops : concat tops ≡ file
+    whole_tops = concat-last g.tops (concat g.pieces) ∙ g.whole
+
+    tops_cut : IsCut 4194304 tops
+    tops_cut =
+        let some : 0 < length (concat g.pieces) = cut-some 65536 g.pieces (omega arith) is_cut g.some in
+        let most : length (concat g.pieces) ≤ 65536 * length g.pieces = cut-most 65536 g.pieces is_cut in
+        let few : length g.pieces ≤ 64 = g.few in
+        full_cut_last 4194304 g.tops (concat g.pieces) g.full_tops some (omega (arith, most, few))
+
+    -- it is longer than a piece
+    pub several_pieces : 65536 < length file
+    several_pieces =
+        let c = counted_tops in
+        let u : length upper ≡ length g.tops = g.uppers in
+        let l : length lower ≡ length g.pieces = g.lowers in
+        go g.tops g.pieces is_cut g.some c (λ a b. more (u ∙ a) (l ∙ b))
+      where
+        go : (tops pieces : List (List ℕ)) → IsCut 65536 pieces → 0 < length pieces → length file ≡ 4194304 * length tops + length (concat pieces) → (length tops ≡ 0 → length pieces ≡ 1 → ⊥) → 65536 < length file
+        go (t ∷ tops) pieces cut some c none = omega (arith, c)
+        go [] [] cut some c none = absurd (omega (arith, some))
+        go [] (p ∷ []) cut some c none = absurd (none refl refl)
+        go [] (p ∷ q ∷ ps) cut some c none = let k : 65536 < length (concat (p ∷ q ∷ ps)) = cut-more 65536 (p ∷ q ∷ ps) (omega arith) cut (omega arith) in omega (arith, c, k)
+
+    pub runs_tops : runs 4194304 file ≡ tops ++ []
+    runs_tops = ap (λ z. runs 4194304 z) (sym whole_tops) ∙ (runs-concat 4194304 tops (omega arith) tops_cut ∙ sym (append-nil tops))
+
     -- after it is closed
-    module _ (mid : Shown) (after : List Node) (grown : IsGrown name session start mid after (places_at 1 g.tops ++ run_at 0 g.pieces ∷ [])) (counted : length after ≡ length upper + 1) where
+    module _ (mid : Shown tells) (after : List Node) (grown : IsGrown name session start mid after (places_at 1 g.tops ++ run_at 0 g.pieces ∷ [])) (counted : length after ≡ length upper + 1) where
       pub second : (n : Node) → after ≡ n ∷ [] → HasTop name session start mid n file
       second n one =
           let u : length upper ≡ length g.tops = g.uppers in
@@ -120,16 +147,6 @@ module _ (name : List ℕ → Address) (session : List ℕ) (start old : Shown) 
       pub grown_tops : IsGrown name session start mid ([] ++ after) ([] ++ places_at 1 tops)
       grown_tops = subst (λ z. IsGrown name session start mid after z) (sym (places-last 1 g.tops (concat g.pieces))) grown
 
-      whole_tops : concat tops ≡ file
-      whole_tops = concat-last g.tops (concat g.pieces) ∙ g.whole
-
-      tops_cut : IsCut 4194304 tops
-      tops_cut =
-          let some : 0 < length (concat g.pieces) = cut-some 65536 g.pieces (omega arith) is_cut g.some in
-          let most : length (concat g.pieces) ≤ 65536 * length g.pieces = cut-most 65536 g.pieces is_cut in
-          let few : length g.pieces ≤ 64 = g.few in
-          full_cut_last 4194304 g.tops (concat g.pieces) g.full_tops some (omega (arith, most, few))
-
       pub top_run : IsRun [] [] 1 tops (length file)
       top_run = record {
         counted = refl;
@@ -137,12 +154,20 @@ module _ (name : List ℕ → Address) (session : List ℕ) (start old : Shown) 
         below = ap (λ z. length z) (sym whole_tops);
       }
 
-      pub third : (new : Shown) (n : Node) (last : List Node) → IsGrown name session start new last ([] ++ run_at 1 tops ∷ []) → last ≡ n ∷ [] → 2 ≤ length after → HasTop name session start new n file
-      third new n last there one several =
+      third_place : 2 ≤ length after → run_at 1 tops ≡ record { height = height stored_cut (length file); bytes = file }
+      third_place several =
           let u : length upper ≡ length g.tops = g.uppers in
           let c = counted_tops in
           let some : 0 < length (concat g.pieces) = cut-some 65536 g.pieces (omega arith) is_cut g.some in
           let level : 2 ≡ height stored_cut (length file) = sym (height-2 (length file) (omega (arith, c, u, counted, several, some))) in
           let file_is : concat tops ≡ file = whole_tops in
-          let place : run_at 1 tops ≡ record { height = height stored_cut (length file); bytes = file } = λ i. record { height = level i; bytes = file_is i } in
-          subst (λ z. IsGrown name session start new z (record { height = height stored_cut (length file); bytes = file } ∷ [])) one (subst (λ z. IsGrown name session start new last (z ∷ [])) place there)
+          λ i. record { height = level i; bytes = file_is i }
+
+      -- the top above it is the last block of the tree
+      pub third_front : 2 ≤ length after → flat_map (tree_below name) ([] ++ run_at 1 tops ∷ []) ≡ tree_of stored_cut name file
+      unfolding tree_of
+      third_front several = append-nil (tree_below name (run_at 1 tops)) ∙ ap (λ z. tree_below name z) (third_place several)
+
+      pub third : (new : Shown tells) (n : Node) (last : List Node) → IsGrown name session start new last ([] ++ run_at 1 tops ∷ []) → last ≡ n ∷ [] → 2 ≤ length after → HasTop name session start new n file
+      third new n last there one several =
+          subst (λ z. IsGrown name session start new z (record { height = height stored_cut (length file); bytes = file } ∷ [])) one (subst (λ z. IsGrown name session start new last (z ∷ [])) (third_place several) there)

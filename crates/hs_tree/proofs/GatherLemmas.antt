@@ -1,14 +1,13 @@
 -- A source is taken to its end.
 use Rattle.std.proofs.Common.{◌≡◌, ℕ, ◌+◌, ◌*◌, ◌<◌, ◌≤◌, List, [], ◌++◌, Option, Some, None, IfSome, refl, sym, ap, ◌∙◌, subst, length, arith, append-nil, append_assoc, length-append}
-use Rattle.std.specs.List.{flat_map}
 use Rattle.hs_asking.specs.Shown.{Shown}
 use Rattle.hs_limits.specs.declared.address.Address.{Address}
 use Rattle.hs_ports.specs.Source.{IsEnded, before}
-use Rattle.hs_tree.proofs.StopLemmas.{IsQuiet, stops_quietly}
+use Rattle.hs_tree.proofs.NextLemmas.{taking_halts}
+use Rattle.hs_tree.proofs.StopLemmas.{IsQuiet}
 use Rattle.hs_tree.proofs.StoreLemmas.{ended, file-count, no_length}
-use Rattle.hs_tree.specs.Calls.{IsTakeFault}
-use Rattle.hs_tree.specs.Growing.{IsStopped, places_at, tree_below}
-use Rattle.hs_tree.specs.Storing.{HasGathered, HasTaken, IsGathered, IsTaking, IsUnderWay}
+use Rattle.hs_tree.specs.Calls.{HasGone, IsTakeFault}
+use Rattle.hs_tree.specs.Storing.{HasGathered, HasHalted, HasTaken, IsGathered, IsTaking, IsUnderWay}
 use Rattle.hs_tree.specs.declared.fault.TreeFault.{TreeFault}
 use Rattle.hs_tree.specs.declared.fault.TreeFault.TheVariants as fault
 use Rattle.hs_tree.specs.declared.grow.Node.{Node}
@@ -31,14 +30,14 @@ take_quiet m n (fault.NotATree address) h = absurd h
 take_quiet m n fault.NoMemory h = tt
 
 -- so far, from a start
-abbrev pub SoFar : (List ℕ → Address) → List ℕ → Shown → Shown → List Node → List Node → ℕ → Option (List ℕ) → Option (List ℕ) → Type 0
+abbrev pub SoFar : {tells : Type 0} → (List ℕ → Address) → List ℕ → Shown tells → Shown tells → List Node → List Node → ℕ → Option (List ℕ) → Option (List ℕ) → Type 0
 SoFar name session start now upper lower bytes left0 left = (file : List ℕ) × IsTaking name session start now upper lower file × (bytes ≡ length file) × (before file left ≡ left0)
 
-module _ (name : List ℕ → Address) (session : List ℕ) (start : Shown) where
-  pub starts : (now : Shown) (upper lower : List Node) (left : Option (List ℕ)) → IsTaking name session start now upper lower [] → SoFar name session start now upper lower 0 left left
+module _ {tells : Type 0} (name : List ℕ → Address) (session : List ℕ) (start : Shown tells) where
+  pub starts : (now : Shown tells) (upper lower : List Node) (left : Option (List ℕ)) → IsTaking name session start now upper lower [] → SoFar name session start now upper lower 0 left left
   starts now upper lower left t = ([], t, refl, before_none left)
 
-  module _ (old new : Shown) (upper lower above below : List Node) (bytes taken : ℕ) (left0 left left' : Option (List ℕ)) (p : SoFar name session start old upper lower bytes left0 left) (short : bytes < 67108864) (h : HasTaken name session start new left left' above below p.0 taken) where
+  module _ (old new : Shown tells) (upper lower above below : List Node) (bytes taken : ℕ) (left0 left left' : Option (List ℕ)) (p : SoFar name session start old upper lower bytes left0 left) (short : bytes < 67108864) (h : HasTaken name session start new left left' above below p.0 taken) where
     count : bytes + taken ≡ length (p.0 ++ h.piece)
     count = let a : bytes ≡ length p.0 = p.2 in let b : taken ≡ length h.piece = h.counted in let c : length (p.0 ++ h.piece) ≡ length p.0 + length h.piece = length-append p.0 h.piece in omega (arith, a, b, c)
 
@@ -63,7 +62,7 @@ module _ (name : List ℕ → Address) (session : List ℕ) (start : Shown) wher
     pub stops_here : taken < 65536 → HasGathered name session start new left0 left' above below (bytes + taken)
     stops_here less = record { file = p.0 ++ h.piece; counted = count; fits = (let c = count in let r = room in omega (arith, c, r)); stream = stream; ended = h.ended less; gathered = h.added.gathered }
 
-  module _ (now : Shown) (upper lower : List Node) (bytes : ℕ) (left0 left : Option (List ℕ)) (p : SoFar name session start now upper lower bytes left0 left) (full : 67108864 ≤ bytes) where
+  module _ (now : Shown tells) (upper lower : List Node) (bytes : ℕ) (left0 left : Option (List ℕ)) (p : SoFar name session start now upper lower bytes left0 left) (full : 67108864 ≤ bytes) where
     pub stops_full : (left' : Option (List ℕ)) → IsEnded left' → left' ≡ left → HasGathered name session start now left0 left' upper lower bytes
     stops_full left' e same =
         let a : bytes ≡ length p.0 = p.2 in
@@ -86,12 +85,20 @@ module _ (name : List ℕ → Address) (session : List ℕ) (start : Shown) wher
             let c : length (p.0 ++ rest) ≡ length p.0 + length rest = length-append p.0 rest in
             omega (arith, a, c, full, h)
 
-  pub taking_stops : (now : Shown) (upper lower : List Node) (file key : List ℕ) (f : TreeFault) → IsQuiet f → IsTaking name session start now upper lower file → IsStopped session key start now f
-  taking_stops now upper lower file key f q t = stops_quietly name session key start now (upper ++ lower) [] [] (flat_map (tree_below name) (places_at 1 t.gathering.tops ++ places_at 0 t.gathering.pieces)) (places_at 1 t.gathering.tops ++ places_at 0 t.gathering.pieces) f q t.gathering.grown
+  -- it stops behind what was taken so far
+  pub halts_so_far : (key : List ℕ) (old new : Shown tells) (upper lower : List Node) (bytes : ℕ) (left0 left left' : Option (List ℕ)) (f : TreeFault) (p : SoFar name session start old upper lower bytes left0 left) → HasHalted name session key start new left left' p.0 f → HasHalted name session key start new left0 left' [] f
+  halts_so_far key old new upper lower bytes left0 left left' f p h = record {
+    more = p.0 ++ h.more;
+    stream = before-append p.0 h.more left' ∙ (ap (λ z. before p.0 z) h.stream ∙ p.3);
+    halted = h.halted;
+  }
+
+  pub taking_stops : (key : List ℕ) (now : Shown tells) (upper lower : List Node) (bytes : ℕ) (left0 left left' : Option (List ℕ)) (f : TreeFault) → IsQuiet f → HasGone left left' → (p : SoFar name session start now upper lower bytes left0 left) → HasHalted name session key start now left0 left' [] f
+  taking_stops key now upper lower bytes left0 left left' f q gone p = halts_so_far key now now upper lower bytes left0 left left' f p (taking_halts name session key start now upper lower p.0 left left' f q gone p.1)
 
 -- under way from somewhere
-pub so_under_way : (name : List ℕ → Address) (session : List ℕ) (start now : Shown) (upper lower : List Node) (bytes : ℕ) (left0 left : Option (List ℕ)) → SoFar name session start now upper lower bytes left0 left → IsUnderWay name session now upper lower bytes
+pub so_under_way : {tells : Type 0} → (name : List ℕ → Address) (session : List ℕ) (start now : Shown tells) (upper lower : List Node) (bytes : ℕ) (left0 left : Option (List ℕ)) → SoFar name session start now upper lower bytes left0 left → IsUnderWay name session now upper lower bytes
 so_under_way name session start now upper lower bytes left0 left p = record { start = start; file = p.0; taking = p.1; counted = p.2 }
 
-pub begun_at : (name : List ℕ → Address) (session : List ℕ) (now : Shown) (upper lower : List Node) (u : IsUnderWay name session now upper lower 0) → IsTaking name session u.start now upper lower []
+pub begun_at : {tells : Type 0} → (name : List ℕ → Address) (session : List ℕ) (now : Shown tells) (upper lower : List Node) (u : IsUnderWay name session now upper lower 0) → IsTaking name session u.start now upper lower []
 begun_at name session now upper lower u = subst (λ z. IsTaking name session u.start now upper lower z) (no_length u.file (sym u.counted)) u.taking

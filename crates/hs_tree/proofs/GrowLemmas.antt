@@ -1,5 +1,5 @@
 -- What each call does to a tree that is being stored.
-use Rattle.std.proofs.Common.{◌≡◌, inl, inr, ℕ, ◌+◌, ◌≤◌, List, [], ◌∷◌, ◌++◌, Option, Some, None, IfSome, true, ◌&&◌, refl, sym, ap, ◌∙◌, map, length, is_some, nat_le, arith, append_assoc, unwrap_or, if◌then◌else◌, slice_index}
+use Rattle.std.proofs.Common.{◌≡◌, ◌⊎◌, inl, inr, ℕ, zero, suc, ◌+◌, ◌≤◌, take, subst, length-append, List, [], ◌∷◌, ◌++◌, Some, None, true, ◌&&◌, refl, sym, ap, ◌∙◌, map, length, is_some, nat_le, arith, append_assoc, unwrap_or, if◌then◌else◌, slice_index}
 use Rattle.std.proofs.Common.{tests}
 use Rattle.std.proofs.lemmas.Bool.{and_from}
 use Rattle.std.proofs.lemmas.List.{length-map, map-append}
@@ -7,7 +7,7 @@ use Rattle.std.specs.List.{AllByRecursion, AllZip, list_all}
 use Rattle.hs_asking.proofs.HandLemmas.{all_append, find_member}
 use Rattle.hs_asking.proofs.SeatLemmas.{IsUsable, member_all, seat_held}
 use Rattle.hs_asking.specs.Seats.{HasSeat}
-use Rattle.hs_asking.specs.Shown.{Began, Shown, store_now}
+use Rattle.hs_asking.specs.Shown.{IfTold, Began, Shown, store_now}
 use Rattle.hs_journal.specs.Events.{addressed, has_block}
 use Rattle.hs_limits.specs.Block.{Block, spell}
 use Rattle.hs_limits.specs.declared.address.Address.{Address}
@@ -19,7 +19,11 @@ use Rattle.hs_model.specs.Judge.{address_of}
 use Rattle.hs_model.specs.Store.{Store, held_at, held_in}
 use Rattle.hs_model.specs.declared.op.Op.{Op}
 use Rattle.hs_model.specs.declared.op.Op.TheVariants as op
-use Rattle.hs_tree.specs.Growing.{HasWorked, IsNamedBy, IsWork, Matches, StandsFor, as_write, as_writes, write_above, writes_in}
+use Rattle.hs_tree.proofs.RunsLemmas.{take-all}
+use Rattle.hs_model.specs.declared.reply.Reply.{Reply}
+use Rattle.hs_tree.specs.Calls.{Hears}
+use Rattle.hs_tree.specs.Telling.{AreDone, IsDoneBy}
+use Rattle.hs_tree.specs.Growing.{HasWorked, HoldsAtMost, IsNamedBy, IsWork, Matches, StandsFor, as_write, as_writes, forgets_in, write_above, writes_in}
 use Rattle.hs_tree.specs.declared.grow.Node.{Node}
 
 -- ---- lists side by side
@@ -53,7 +57,7 @@ zip_length R (x ∷ xs) (y ∷ ys) h = let k = zip_length R xs ys h.1 in omega (
 
 -- ---- what was asked for
 
-writes-append : (xs ys : List Op) → writes_in (xs ++ ys) ≡ writes_in xs ++ writes_in ys
+pub writes-append : (xs ys : List Op) → writes_in (xs ++ ys) ≡ writes_in xs ++ writes_in ys
 writes-append [] ys = refl
 writes-append (op.Open name ∷ xs) ys = writes-append xs ys
 writes-append (op.Close name ∷ xs) ys = writes-append xs ys
@@ -67,13 +71,84 @@ writes-append (op.Name name handle ∷ xs) ys = writes-append xs ys
 writes-append (op.Delete ∷ xs) ys = writes-append xs ys
 writes-append (op.Stat ∷ xs) ys = writes-append xs ys
 
+forgets-append : (xs ys : List Op) → forgets_in (xs ++ ys) ≡ forgets_in xs ++ forgets_in ys
+forgets-append [] ys = refl
+forgets-append (op.Open name ∷ xs) ys = forgets-append xs ys
+forgets-append (op.Close name ∷ xs) ys = forgets-append xs ys
+forgets-append (op.Write name payload handles address ∷ xs) ys = forgets-append xs ys
+forgets-append (op.Read name handle ∷ xs) ys = forgets-append xs ys
+forgets-append (op.Look name key ∷ xs) ys = forgets-append xs ys
+forgets-append (op.Root name key handle ∷ xs) ys = forgets-append xs ys
+forgets-append (op.Drop key ∷ xs) ys = forgets-append xs ys
+forgets-append (op.Forget name handle ∷ xs) ys = ap (λ z. handle ∷ z) (forgets-append xs ys)
+forgets-append (op.Name name handle ∷ xs) ys = forgets-append xs ys
+forgets-append (op.Delete ∷ xs) ys = forgets-append xs ys
+forgets-append (op.Stat ∷ xs) ys = forgets-append xs ys
+
+-- ---- how many handles are held
+
+take-last : (n : ℕ) (xs : List Op) (o : Op) → (take n (xs ++ o ∷ []) ≡ take n xs) ⊎ (take n (xs ++ o ∷ []) ≡ xs ++ o ∷ [])
+take-last zero [] o = inl refl
+take-last zero (x ∷ xs) o = inl refl
+take-last (suc n) [] o = inr (ap (λ z. o ∷ z) (take-all n [] (omega arith)))
+take-last (suc n) (x ∷ xs) o = elim (take-last n xs o) [ inl e ↦ inl (ap (λ z. x ∷ z) e) | inr e ↦ inr (ap (λ z. x ∷ z) e) ]
+
+take-whole : (xs : List Op) → take (length xs) xs ≡ xs
+take-whole [] = refl
+take-whole (x ∷ xs) = ap (λ z. x ∷ z) (take-whole xs)
+
+module _ (held : ℕ) (ops : List Op) (balance : length (writes_in ops) ≡ length (forgets_in ops) + held) (few : HoldsAtMost 81 ops) where
+  -- so many are held, and at most 81
+  pub held_few : held ≤ 81
+  held_few =
+      let whole : length (writes_in ops) ≤ length (forgets_in ops) + 81 = subst (λ z. length (writes_in z) ≤ length (forgets_in z) + 81) (take-whole ops) (few (length ops)) in
+      omega (arith, whole, balance)
+
+  -- one more operation
+  module _ (o : Op) where
+    counts : (length (writes_in (ops ++ o ∷ [])) ≡ length (writes_in ops) + length (writes_in (o ∷ []))) × (length (forgets_in (ops ++ o ∷ [])) ≡ length (forgets_in ops) + length (forgets_in (o ∷ [])))
+    counts = (ap (λ z. length z) (writes-append ops (o ∷ [])) ∙ length-append (writes_in ops) (writes_in (o ∷ [])), ap (λ z. length z) (forgets-append ops (o ∷ [])) ∙ length-append (forgets_in ops) (forgets_in (o ∷ [])))
+
+    pub few_more : held + length (writes_in (o ∷ [])) ≤ 81 → HoldsAtMost 81 (ops ++ o ∷ [])
+    few_more room n =
+        let w : length (writes_in (ops ++ o ∷ [])) ≡ length (writes_in ops) + length (writes_in (o ∷ [])) = counts.0 in
+        let f : length (forgets_in (ops ++ o ∷ [])) ≡ length (forgets_in ops) + length (forgets_in (o ∷ [])) = counts.1 in
+        let whole : length (writes_in (ops ++ o ∷ [])) ≤ length (forgets_in (ops ++ o ∷ [])) + 81 = omega (arith, w, f, balance, room) in
+        elim (take-last n ops o) [
+          | inl e ↦ subst (λ z. length (writes_in z) ≤ length (forgets_in z) + 81) (sym e) (few n)
+          | inr e ↦ subst (λ z. length (writes_in z) ≤ length (forgets_in z) + 81) (sym e) whole
+        ]
+
+    pub balance_more : (after : ℕ) → held + length (writes_in (o ∷ [])) ≡ after + length (forgets_in (o ∷ [])) → length (writes_in (ops ++ o ∷ [])) ≡ length (forgets_in (ops ++ o ∷ [])) + after
+    balance_more after e =
+        let w : length (writes_in (ops ++ o ∷ [])) ≡ length (writes_in ops) + length (writes_in (o ∷ [])) = counts.0 in
+        let f : length (forgets_in (ops ++ o ∷ [])) ≡ length (forgets_in ops) + length (forgets_in (o ∷ [])) = counts.1 in
+        omega (arith, w, f, balance, e)
+
+-- an open holds nothing
+pub few_open : (session : List ℕ) (ops : List Op) → HoldsAtMost 81 ops → HoldsAtMost 81 (op.Open session ∷ ops)
+few_open session ops h zero = omega arith
+few_open session ops h (suc n) = h n
+
+pub few_none : HoldsAtMost 81 []
+few_none zero = omega arith
+few_none (suc n) = omega arith
+
+-- one more was done
+pub done_more : {tells : Type 0} → (start old new : Shown tells) (ops : List Op) (o : Op) (told : Reply) → AreDone start old ops → Hears old new o told → IsDoneBy o told → AreDone start new (ops ++ o ∷ [])
+done_more {tells} start old new [] o told h w d = (new, told, subst (λ (s : Shown tells). Hears s new o told) h w, d, refl)
+done_more {tells} start old new (x ∷ xs) o told h w d = (h.0, h.1, h.2, h.3, done_more h.0 old new xs o told h.4 w d)
+
 -- one more operation of work, which writes these
-pub worked_more : (name : List ℕ → Address) (session : List ℕ) (start old new : Shown) (done : List Block) (o : Op) (more : List Block) → HasWorked name session start old done → new.asked ≡ old.asked ++ o ∷ [] → IsWork session o → writes_in (o ∷ []) ≡ as_writes name more → HasWorked name session start new (done ++ more)
-worked_more name session start old new done o more h asked work writes = record {
+pub worked_more : {tells : Type 0} → (name : List ℕ → Address) (session : List ℕ) (start old new : Shown tells) (held after : ℕ) (done : List Block) (o : Op) (more : List Block) → HasWorked name session start old held done → (told : Reply) → Hears old new o told → IsDoneBy o told → IsWork session o → writes_in (o ∷ []) ≡ as_writes name more → held + length (writes_in (o ∷ [])) ≤ 81 → held + length (writes_in (o ∷ [])) ≡ after + length (forgets_in (o ∷ [])) → HasWorked name session start new after (done ++ more)
+worked_more name session start old new held after done o more h told hears is work writes room count = record {
   ops = h.ops ++ o ∷ [];
-  asked = asked ∙ (ap (λ z. z ++ o ∷ []) h.asked ∙ append_assoc start.asked (op.Open session ∷ h.ops) (o ∷ []));
+  asked = hears.asked ∙ (ap (λ z. z ++ o ∷ []) h.asked ∙ append_assoc start.asked (op.Open session ∷ h.ops) (o ∷ []));
   work = all_append (IsWork session) h.ops (o ∷ []) h.work (work, tt);
   writes = writes-append h.ops (o ∷ []) ∙ (ap (λ z. z ++ writes_in (o ∷ [])) h.writes ∙ (ap (λ z. as_writes name done ++ z) writes ∙ sym (map-append (as_write name) done more)));
+  done = done_more start old new (op.Open session ∷ h.ops) o told h.done hears is;
+  balance = balance_more held h.ops h.balance h.few o after count;
+  few = few_more held h.ops h.balance h.few o room;
 }
 
 -- ---- handles and nodes
@@ -132,9 +207,5 @@ write_named name b s session nodes payload named few short h =
     ap (λ z. op.Write session payload handles z) address_is
 
 -- what makes a write's condition
-pub is_named : (name : List ℕ → Address) (session : List ℕ) (old : Shown) (nodes : List Node) (payload : List ℕ) → length nodes ≤ MOST_POINTERS → length payload ≤ MOST_BYTES → IsNamedBy name session old nodes → IfSome old.began (λ b. addressed b.name (store_now b old) (write_above name session nodes payload) ≡ write_above name session nodes payload)
-is_named name session old nodes payload few short h = go old.began h
-  where
-    go : (began : Option Began) → IfSome began (λ b. (b.name ≡ name) × AllByRecursion (StandsFor (store_now b old) session) nodes) → IfSome began (λ b. addressed b.name (store_now b old) (write_above name session nodes payload) ≡ write_above name session nodes payload)
-    go None h = tt
-    go (Some b) h = write_named name b (store_now b old) session nodes payload h.0 few short h.1
+pub is_named : {tells : Type 0} → (name : List ℕ → Address) (session : List ℕ) (old : Shown tells) (nodes : List Node) (payload : List ℕ) → length nodes ≤ MOST_POINTERS → length payload ≤ MOST_BYTES → IsNamedBy name session old nodes → IfTold old (λ b. addressed b.name (store_now b old) (write_above name session nodes payload) ≡ write_above name session nodes payload)
+is_named name session old nodes payload few short h = λ is. write_named name old.began (store_now old.began old) session nodes payload (h is).0 few short (h is).1

@@ -9,6 +9,7 @@ pub mod RunsLemmas
 pub mod PartLemmas
 pub mod StoreLemmas
 pub mod FinishLemmas
+pub mod FrontLemmas
 pub mod EndLemmas
 pub mod LawLemmas
 pub mod GatherLemmas
@@ -17,3 +18,12 @@ pub mod NextLemmas
 pub mod FileLemmas
 pub mod TopLemmas
 pub mod LevelLemmas
+pub mod RowLemmas
+pub mod RowSteps
+pub mod FetchLemmas
+pub mod PartReads
+pub mod RowReads
+pub mod TopReads
+pub mod RootReads
+pub mod FileReads
+pub mod KeyLemmas

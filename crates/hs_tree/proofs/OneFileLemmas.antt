@@ -27,7 +27,7 @@ runs-joined n xs p = joined_in (length xs) n xs p (omega arith)
 
 -- ---- one block at an address
 
-same_block : (s : Store) (a : Address) (b c : Block) → IsBlockAt s a b → IsBlockAt s a c → (b.bytes ≡ c.bytes) × (b.pointers ≡ c.pointers)
+pub same_block : (s : Store) (a : Address) (b c : Block) → IsBlockAt s a b → IsBlockAt s a c → (b.bytes ≡ c.bytes) × (b.pointers ≡ c.pointers)
 same_block s a b c h k =
     let p : block_at s a ≡ Some h.stored = h.present in
     let q : block_at s a ≡ Some k.stored = k.present in
@@ -47,7 +47,7 @@ zip_same R one (a ∷ places) (f ∷ fs) (g ∷ gs) h k =
     let rest : fs ≡ gs = zip_same R one places fs gs h.1 k.1 in
     λ i. here i ∷ rest i
 
-below_same : (s : Store) (h : ℕ) (a : Address) (f g : List ℕ) → IsTreeBelow s h a f → IsTreeBelow s h a g → f ≡ g
+pub below_same : (s : Store) (h : ℕ) (a : Address) (f g : List ℕ) → IsTreeBelow s h a f → IsTreeBelow s h a g → f ≡ g
 unfolding IsTreeBelow
 below_same s zero a f g p q = (same_block s a (record { pointers = []; bytes = f }) (record { pointers = []; bytes = g }) p q).0
 below_same s (suc h) a f g p q =

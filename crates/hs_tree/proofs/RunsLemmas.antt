@@ -8,7 +8,7 @@ use Rattle.hs_tree.specs.Trees.{height, height_from, runs, runs_in, span, stored
 
 -- ---- taking a whole list
 
-take-all : {A : Type 0} (n : ℕ) (xs : List A) → length xs ≤ n → take n xs ≡ xs
+pub take-all : {A : Type 0} (n : ℕ) (xs : List A) → length xs ≤ n → take n xs ≡ xs
 take-all n [] h = grind (arith, common_steps)
 take-all zero (x ∷ xs) h = absurd (omega (arith, h))
 take-all (suc n) (x ∷ xs) h = ap (λ z. x ∷ z) (take-all n xs (omega (arith, h)))

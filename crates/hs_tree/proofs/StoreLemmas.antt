@@ -24,8 +24,8 @@ pub no_length : {A : Type 0} (xs : List A) → length xs ≡ 0 → xs ≡ []
 no_length [] e = refl
 no_length (x ∷ xs) e = absurd (omega (arith, e))
 
-module _ (name : List ℕ → Address) (session : List ℕ) (start : Shown) where
-  pub file-count : (now : Shown) (upper lower : List Node) (file : List ℕ) (g : IsGathering name session start now upper lower file) → length file ≡ 4194304 * length g.tops + 65536 * length g.pieces
+module _ {tells : Type 0} (name : List ℕ → Address) (session : List ℕ) (start : Shown tells) where
+  pub file-count : (now : Shown tells) (upper lower : List Node) (file : List ℕ) (g : IsGathering name session start now upper lower file) → length file ≡ 4194304 * length g.tops + 65536 * length g.pieces
   file-count now upper lower file g =
       let t : length (concat g.tops) ≡ 4194304 * length g.tops = length-full 4194304 g.tops g.full_tops in
       let p : length (concat g.pieces) ≡ 65536 * length g.pieces = length-full 65536 g.pieces g.full_pieces in
@@ -33,7 +33,7 @@ module _ (name : List ℕ → Address) (session : List ℕ) (start : Shown) wher
       let whole : length (concat g.tops ++ concat g.pieces) ≡ length file = ap (λ z. length z) g.whole in
       omega (arith, t, p, both, whole)
 
-  pub fitting : (now : Shown) (upper lower : List Node) (file : List ℕ) (g : IsGathering name session start now upper lower file) → length file ≤ 67108864 → IsFitting upper lower (places_at 1 g.tops ++ places_at 0 g.pieces)
+  pub fitting : (now : Shown tells) (upper lower : List Node) (file : List ℕ) (g : IsGathering name session start now upper lower file) → length file ≤ 67108864 → IsFitting upper lower (places_at 1 g.tops ++ places_at 0 g.pieces)
   fitting now upper lower file g h =
       let nodes : length (upper ++ lower) ≡ length upper + length lower = length-append upper lower in
       let places : length (places_at 1 g.tops ++ places_at 0 g.pieces) ≡ length (places_at 1 g.tops) + length (places_at 0 g.pieces) = length-append (places_at 1 g.tops) (places_at 0 g.pieces) in
@@ -46,7 +46,7 @@ module _ (name : List ℕ → Address) (session : List ℕ) (start : Shown) wher
       record { counted = omega (arith, nodes, places, u, l, a, b); room = omega (arith, nodes, u, l, count, h, few) }
 
   -- a whole run is closed
-  pub closed : (old mid : Shown) (upper lower after : List Node) (file : List ℕ) (g : IsGathering name session start old upper lower file) → length file ≤ 67108864 → length lower ≡ 64 → ClosesRun name session old mid 4194304 lower upper after → length after ≡ length upper + 1
+  pub closed : (old mid : Shown tells) (upper lower after : List Node) (file : List ℕ) (g : IsGathering name session start old upper lower file) → length file ≤ 67108864 → length lower ≡ 64 → ClosesRun name session old mid 4194304 lower upper after → length after ≡ length upper + 1
       → IsGathering name session start mid after [] file
   closed old mid upper lower after file g fits full closes counted =
       let fit = fitting old upper lower file g fits in
@@ -73,7 +73,7 @@ module _ (name : List ℕ → Address) (session : List ℕ) (start : Shown) wher
       }
 
   -- a piece is added
-  pub added : (old new : Shown) (upper lower after : List Node) (file piece : List ℕ) (g : IsGathering name session start old upper lower file) → length file ≤ 67108864 → length lower < 64 → length piece ≤ 65536 → (length piece ≡ 0 → file ≡ []) → AddsPiece name session old new piece lower after → length after ≡ length lower + 1
+  pub added : (old new : Shown tells) (upper lower after : List Node) (file piece : List ℕ) (g : IsGathering name session start old upper lower file) → length file ≤ 67108864 → length lower < 64 → length piece ≤ 65536 → (length piece ≡ 0 → file ≡ []) → AddsPiece name session old new piece lower after → length after ≡ length lower + 1
       → HasAdded name session start new upper after file piece
   added old new upper lower after file piece g fits room_left short first adds counted =
       let fit = fitting old upper lower file g fits in
@@ -107,7 +107,7 @@ module _ (name : List ℕ → Address) (session : List ℕ) (start : Shown) wher
       cut_of (x ∷ xs) e = inl (full_cut_last 65536 g.pieces piece g.full_pieces (let k : length piece ≡ length (x ∷ xs) = ap (λ z. length z) e in omega (arith, k)) short)
 
   -- nothing more came
-  pub ended : (now : Shown) (upper lower : List Node) (file : List ℕ) → IsTaking name session start now upper lower file → 0 < length file → IsGathered name session start now upper lower (file ++ [])
+  pub ended : (now : Shown tells) (upper lower : List Node) (file : List ℕ) → IsTaking name session start now upper lower file → 0 < length file → IsGathered name session start now upper lower (file ++ [])
   ended now upper lower file t p =
       let g = t.gathering in
       record { tops = g.tops; pieces = g.pieces; grown = g.grown; uppers = g.uppers; lowers = g.lowers; few = g.few; some = t.some p; full_tops = g.full_tops; cut = inl (full_cut 65536 g.pieces (omega arith) g.full_pieces); whole = g.whole ∙ sym (append-nil file) }

@@ -22,7 +22,7 @@ pub leaf_is : (name : List ℕ → Address) (piece : List ℕ) → record { poin
 unfolding node
 leaf_is name piece = refl
 
-leaf_tree : (name : List ℕ → Address) (piece : List ℕ) → tree stored_cut name 0 piece ≡ node stored_cut name 0 piece ∷ []
+pub leaf_tree : (name : List ℕ → Address) (piece : List ℕ) → tree stored_cut name 0 piece ≡ node stored_cut name 0 piece ∷ []
 unfolding tree
 leaf_tree name piece = refl
 
@@ -30,8 +30,12 @@ pub leaf_planted : (name : List ℕ → Address) (piece : List ℕ) (s : Store) 
 unfolding IsPlanted
 leaf_planted name piece s none h = h
 
-pub grows_piece : (name : List ℕ → Address) (session : List ℕ) (start old new : Shown) (nodes : List Node) (places : List Place) (piece : List ℕ) (handle : ℕ) (a : Address)
-    → length nodes ≡ length places → length piece ≤ MOST_BYTES → length nodes + 1 ≤ 4096
+-- the tree with one more piece
+pub leaf_blocks : (name : List ℕ → Address) (places : List Place) (piece : List ℕ) → flat_map (tree_below name) places ++ block_of name (piece_at piece) ∷ [] ≡ flat_map (tree_below name) (places ++ piece_at piece ∷ [])
+leaf_blocks name places piece = ap (λ z. flat_map (tree_below name) places ++ z) (sym (leaf_tree name piece)) ∙ sym (flat_last name places (piece_at piece))
+
+pub grows_piece : {tells : Type 0} → (name : List ℕ → Address) (session : List ℕ) (start old new : Shown tells) (nodes : List Node) (places : List Place) (piece : List ℕ) (handle : ℕ) (a : Address)
+    → length nodes ≡ length places → length piece ≤ MOST_BYTES → length nodes + 1 ≤ 81
     → IsGrown name session start old nodes places → IsWrittenAs old new (write_above name session [] piece) handle
     → a ≡ name (spell (record { pointers = map (λ (n : Node). n.address) []; bytes = piece }))
     → IsGrown name session start new (nodes ++ record { handle = handle; address = a } ∷ []) (places ++ piece_at piece ∷ [])
@@ -41,11 +45,11 @@ grows_piece name session start old new nodes places piece handle a same short ro
     let none_places : places ++ [] ≡ places = append-nil places in
     let before : IsGrowing name session start old (nodes ++ []) [] [] (flat_map (tree_below name) places) (places ++ []) =
     subst (λ z. IsGrowing name session start old z [] [] (flat_map (tree_below name) places) (places ++ [])) (sym none) (subst (λ z. IsGrowing name session start old nodes [] [] (flat_map (tree_below name) places) z) (sym none_places) h) in
-    let room_there : length (nodes ++ []) + 1 ≤ 4096 = subst (λ (z : List Node). length z + 1 ≤ 4096) (sym none) room in
+    let room_there : length (nodes ++ []) + 1 ≤ 81 = subst (λ (z : List Node). length z + 1 ≤ 81) (sym none) room in
     let after : IsGrowing name session start new nodes [] (record { handle = handle; address = name_of name p } ∷ []) (flat_map (tree_below name) places ++ block_of name p ∷ []) (places ++ p ∷ []) =
     grows_above name session start old new nodes [] (flat_map (tree_below name) places) places [] p piece handle same (leaf_is name piece) (λ s none there. leaf_planted name piece s none there) (omega arith) short room_there before w in
     let joined = joins name session start new new nodes (record { handle = handle; address = name_of name p } ∷ []) (flat_map (tree_below name) places ++ block_of name p ∷ []) (places ++ p ∷ []) after in
-    let blocks : flat_map (tree_below name) places ++ block_of name p ∷ [] ≡ flat_map (tree_below name) (places ++ p ∷ []) = ap (λ z. flat_map (tree_below name) places ++ z) (sym (leaf_tree name piece)) ∙ sym (flat_last name places p) in
+    let blocks : flat_map (tree_below name) places ++ block_of name p ∷ [] ≡ flat_map (tree_below name) (places ++ p ∷ []) = leaf_blocks name places piece in
     let addr : name_of name p ≡ a = sym (named ∙ ap (λ z. name (spell z)) (leaf_is name piece)) in
     subst (λ z. IsGrowing name session start new (nodes ++ record { handle = handle; address = a } ∷ []) [] [] z (places ++ p ∷ [])) blocks
     (subst (λ z. IsGrowing name session start new (nodes ++ record { handle = handle; address = z } ∷ []) [] [] (flat_map (tree_below name) places ++ block_of name p ∷ []) (places ++ p ∷ [])) addr joined)
@@ -80,6 +84,13 @@ run_tree name h cs cut = ap (λ z. z ++ node stored_cut name (suc h) (concat cs)
     each [] = refl
     each (x ∷ xs) = ap (λ z. tree stored_cut name h x ++ z) (each xs)
 
+-- the tree with a block above its last run
+pub run_blocks : (name : List ℕ → Address) (fp : List Place) (h : ℕ) (cs : List (List ℕ)) → runs (span stored_cut h) (concat cs) ≡ cs → flat_map (tree_below name) (fp ++ places_at h cs) ++ block_of name (run_at h cs) ∷ [] ≡ flat_map (tree_below name) (fp ++ run_at h cs ∷ [])
+run_blocks name fp h cs cut =
+    let rp : List Place = places_at h cs in
+    let p : Place = run_at h cs in
+    ap (λ z. z ++ block_of name p ∷ []) (flat_map-append (tree_below name) fp rp) ∙ (append_assoc (flat_map (tree_below name) fp) (flat_map (tree_below name) rp) (block_of name p ∷ []) ∙ (ap (λ z. flat_map (tree_below name) fp ++ z) (run_tree name h cs cut) ∙ sym (flat_last name fp p)))
+
 -- the names of the run's nodes
 pub run_names : (name : List ℕ → Address) (front run : List Node) (fp rp : List Place) → length front ≡ length fp → map (λ (n : Node). n.address) (front ++ run) ≡ map (name_of name) (fp ++ rp) → map (λ (n : Node). n.address) run ≡ map (name_of name) rp
 run_names name [] run [] rp l e = e
@@ -87,9 +98,9 @@ run_names name [] run (q ∷ ps) rp l e = absurd (omega (arith, l))
 run_names name (n ∷ ns) run [] rp l e = absurd (omega (arith, l))
 run_names name (n ∷ ns) run (q ∷ ps) rp l e = run_names name ns run ps rp (omega (arith, l)) (cc e)
 
-pub grows_run : (name : List ℕ → Address) (session : List ℕ) (start old new : Shown) (front run : List Node) (fp : List Place) (h : ℕ) (cs : List (List ℕ)) (payload : List ℕ) (handle : ℕ) (a : Address)
+pub grows_run : {tells : Type 0} → (name : List ℕ → Address) (session : List ℕ) (start old new : Shown tells) (front run : List Node) (fp : List Place) (h : ℕ) (cs : List (List ℕ)) (payload : List ℕ) (handle : ℕ) (a : Address)
     → length front ≡ length fp → runs (span stored_cut h) (concat cs) ≡ cs → payload ≡ to_be_bytes w64 (length (concat cs))
-    → length run ≤ MOST_POINTERS → length payload ≤ MOST_BYTES → length (front ++ run) + 1 ≤ 4096
+    → length run ≤ MOST_POINTERS → length payload ≤ MOST_BYTES → length (front ++ run) + 1 ≤ 81
     → IsGrown name session start old (front ++ run) (fp ++ places_at h cs) → IsWrittenAs old new (write_above name session run payload) handle
     → a ≡ name (spell (record { pointers = map (λ (n : Node). n.address) run; bytes = payload }))
     → IsGrowing name session start new front run (record { handle = handle; address = a } ∷ []) (flat_map (tree_below name) (fp ++ run_at h cs ∷ [])) (fp ++ run_at h cs ∷ [])
@@ -99,10 +110,8 @@ grows_run name session start old new front run fp h cs payload handle a same cut
     let names_all : map (λ (n : Node). n.address) (front ++ run) ≡ map (name_of name) (fp ++ rp) = ap (λ z. map (λ (n : Node). n.address) z) (sym (append-nil (front ++ run))) ∙ g.names in
     let pointers : map (λ (n : Node). n.address) run ≡ map (name_of name) rp = run_names name front run fp rp same names_all in
     let is_block : record { pointers = map (λ (n : Node). n.address) run; bytes = payload } ≡ block_of name p = ap (λ (z : List ℕ). record { pointers = map (λ (n : Node). n.address) run; bytes = z }) bytes ∙ node_is name h cs (map (λ (n : Node). n.address) run) cut pointers in
-    let before_blocks : flat_map (tree_below name) (fp ++ rp) ≡ flat_map (tree_below name) fp ++ flat_map (tree_below name) rp = flat_map-append (tree_below name) fp rp in
     let after = grows_above name session start old new front run (flat_map (tree_below name) (fp ++ rp)) fp rp p payload handle same is_block (λ s below there. run_planted name h cs s cut below there) few short room g w in
-    let blocks : flat_map (tree_below name) (fp ++ rp) ++ block_of name p ∷ [] ≡ flat_map (tree_below name) (fp ++ p ∷ []) =
-    ap (λ z. z ++ block_of name p ∷ []) before_blocks ∙ (append_assoc (flat_map (tree_below name) fp) (flat_map (tree_below name) rp) (block_of name p ∷ []) ∙ (ap (λ z. flat_map (tree_below name) fp ++ z) (run_tree name h cs cut) ∙ sym (flat_last name fp p))) in
+    let blocks : flat_map (tree_below name) (fp ++ rp) ++ block_of name p ∷ [] ≡ flat_map (tree_below name) (fp ++ p ∷ []) = run_blocks name fp h cs cut in
     let addr : name_of name p ≡ a = sym (named ∙ ap (λ z. name (spell z)) is_block) in
     subst (λ z. IsGrowing name session start new front run (record { handle = handle; address = a } ∷ []) z (fp ++ p ∷ [])) blocks
     (subst (λ z. IsGrowing name session start new front run (record { handle = handle; address = z } ∷ []) (flat_map (tree_below name) (fp ++ rp) ++ block_of name p ∷ []) (fp ++ p ∷ [])) addr after)

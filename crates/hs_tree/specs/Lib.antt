@@ -5,3 +5,5 @@ pub mod Telling
 pub mod Growing
 pub mod Steps
 pub mod Storing
+pub mod Fetching
+pub mod Rows

@@ -142,7 +142,7 @@ pub(crate) fn add_piece<B: Asker, A: Addresser>(
     ensures going { OnOk result ((B.shows asker.new).ended ≡ None) }
     ensures kind { IfErr result IsAskFault }
     ensures err { IfErr result (λ fault. Stops (A.name naming.now) session.now
-        (B.shows asker.old) (B.shows asker.new) run.old.items fault) }
+        (B.shows asker.old) (B.shows asker.new) piece.items run.old.items fault) }
 {
     let node = write_node(alloc, asker, naming, session, &[], ListOf::from_vec(piece))?;
     push_node(run, node)?;

@@ -7,6 +7,7 @@ ghost use Rattle.hs_limits.specs.declared.address.Address.{Address};
 ghost use Rattle.hs_limits.specs.declared.limits.Limits.{Limits};
 ghost use Rattle.hs_model.specs.Run.{Event, IsLegal, run};
 ghost use Rattle.hs_model.specs.Store.{Store};
+ghost use Rattle.hs_tree.specs.Fetching.{IsFileOf, IsNoFile};
 ghost use Rattle.hs_tree.specs.Levels.{level_at, levels_of, levels_to};
 ghost use Rattle.hs_tree.specs.Trees.{IsStored, IsTreeAt, height, node, stored_cut};
 
@@ -24,6 +25,16 @@ pub fn a_stored_file_stays()
 pub fn a_tree_is_of_one_file()
     ensures { (s : Store) (a : Address) (f g : List ℕ) → length f < 2 ^ 64 → length g < 2 ^ 64 →
         IsTreeAt s a f → IsTreeAt s a g → f ≡ g }
+{}
+
+/// What is stored under a key is what a fetch finds there (`found`), and a key has at most one file (`only`);
+/// so a fetch never finds that no file is there (`never`).
+pub fn a_stored_file_is_fetched()
+    ensures found { (name : List ℕ → Address) (s : Store) (key file : List ℕ) → length file ≤ 67108864 →
+        IsStored name s key file → IsFileOf s key file }
+    ensures only { (s : Store) (key f g : List ℕ) → IsFileOf s key f → IsFileOf s key g → f ≡ g }
+    ensures never { (name : List ℕ → Address) (s : Store) (key file : List ℕ) (a : Address) →
+        length file ≤ 67108864 → IsStored name s key file → IsNoFile s key a → ⊥ }
 {}
 
 /// The levels of a file from its pieces up are those of its tree, height by height (`levels`), and the last

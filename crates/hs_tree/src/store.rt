@@ -1,10 +1,11 @@
 //! Storing a file under a key.
-ghost use Rattle.std.specs.Prelude.{◌≡◌, ◌+◌, ◌<◌, ◌≤◌, ℕ, List, [], length, IfOk, IfErr, IfSome, OnOk, None};
-ghost use Rattle.hs_asking.specs.Shown.{Shown};
+ghost use Rattle.std.specs.Prelude.{◌≡◌, ◌++◌, ◌+◌, ◌<◌, ◌≤◌, ℕ, List, [], length, IfOk, IfErr, IfSome, OnErr, OnOk, None};
+ghost use Rattle.hs_asking.specs.Shown.{IfTold, Shown};
 ghost use Rattle.hs_ports.specs.Source.{IsEnded};
 ghost use Rattle.hs_tree.specs.Calls.{IsAskFault, IsPartFault, IsStoringFault};
-ghost use Rattle.hs_tree.specs.Growing.{HasTop, IsGrown, IsStopped};
-ghost use Rattle.hs_tree.specs.Storing.{HasAdded, HasGathered, HasStored, HasTaken, IsGathered, IsIdle, IsTaking, IsUnderWay, IsWhole, our_session};
+ghost use Rattle.hs_tree.specs.Growing.{HasTop, IsGrown, IsHalted, IsStopped};
+ghost use Rattle.hs_tree.specs.Storing.{HasAdded, HasGathered, HasHalted, HasStored, HasTaken, IsGathered, IsIdle, IsTaking, IsUnderWay, IsUnfinished, IsUnwritten, IsWhole, our_session};
+ghost use Rattle.hs_tree.specs.Trees.{stored_cut, tree_of};
 
 use crate::TreeFault;
 use crate::calls::{open, root};
@@ -34,17 +35,18 @@ fn add_next<B: Asker, A: Addresser>(
         (B.shows asker.old) upper.old.items lower.old.items bytes }
     requires short { length piece.items ≤ 65536 }
     requires some { length piece.items ≡ 0 → bytes ≡ 0 }
-    ensures ok { OnOk result ((start : Shown) (file : List ℕ) →
+    ensures ok { OnOk result ((start : Shown B.tells) (file : List ℕ) →
         IsTaking (A.name naming.now) session.now start (B.shows asker.old)
         upper.old.items lower.old.items file → bytes ≡ length file →
         HasAdded (A.name naming.now) session.now start (B.shows asker.new)
         upper.new.items lower.new.items file piece.items) }
     ensures going { OnOk result ((B.shows asker.new).ended ≡ None) }
     ensures kind { IfErr result IsAskFault }
-    ensures err { IfErr result (λ f. (key : List ℕ) (start : Shown) (file : List ℕ) →
+    ensures err { IfErr result (λ f. (key : List ℕ) (start : Shown B.tells) (file : List ℕ) →
         IsTaking (A.name naming.now) session.now start (B.shows asker.old)
         upper.old.items lower.old.items file → bytes ≡ length file →
-        IsStopped session.now key start (B.shows asker.new) f) }
+        IsHalted (A.name naming.now) session.now key start (B.shows asker.new)
+        (tree_of stored_cut (A.name naming.now) (file ++ piece.items)) f) }
 {
     if lower.len() < MOST_POINTERS {
         return add_piece(alloc, asker, naming, session, piece, lower);
@@ -68,7 +70,7 @@ fn take_next<B: Asker, S: Source, A: Addresser>(
     requires going { (B.shows asker.old).ended ≡ None }
     requires taking { IsUnderWay (A.name naming.now) session.now
         (B.shows asker.old) upper.old.items lower.old.items bytes }
-    ensures ok { IfOk result (λ taken. (start : Shown) (file : List ℕ) →
+    ensures ok { IfOk result (λ taken. (start : Shown B.tells) (file : List ℕ) →
         IsTaking (A.name naming.now) session.now start (B.shows asker.old)
         upper.old.items lower.old.items file → bytes ≡ length file →
         HasTaken (A.name naming.now) session.now start (B.shows asker.new)
@@ -78,10 +80,11 @@ fn take_next<B: Asker, S: Source, A: Addresser>(
     ensures going { OnOk result ((B.shows asker.new).ended ≡ None) }
     ensures cause { IfErr result (IsPartFault (S.faults source.old) (S.faults source.new)) }
     ensures later { S.faults source.old ≤ S.faults source.new }
-    ensures err { IfErr result (λ f. (key : List ℕ) (start : Shown) (file : List ℕ) →
+    ensures err { IfErr result (λ f. (key : List ℕ) (start : Shown B.tells) (file : List ℕ) →
         IsTaking (A.name naming.now) session.now start (B.shows asker.old)
         upper.old.items lower.old.items file → bytes ≡ length file →
-        IsStopped session.now key start (B.shows asker.new) f) }
+        HasHalted (A.name naming.now) session.now key start (B.shows asker.new)
+        (S.left source.old) (S.left source.new) file f) }
 {
     let piece = take_piece(alloc, source, MOST_BYTES)?;
     let taken = piece.len() as u64;
@@ -105,7 +108,7 @@ fn gather<B: Asker, S: Source, A: Addresser>(
     requires going { (B.shows asker.old).ended ≡ None }
     requires begun { IsUnderWay (A.name naming.now) session.now
         (B.shows asker.old) upper.old.items lower.old.items 0 }
-    ensures ok { IfOk result (λ bytes. (start : Shown) →
+    ensures ok { IfOk result (λ bytes. (start : Shown B.tells) →
         IsTaking (A.name naming.now) session.now start (B.shows asker.old)
         upper.old.items lower.old.items [] →
         HasGathered (A.name naming.now) session.now start (B.shows asker.new)
@@ -115,10 +118,11 @@ fn gather<B: Asker, S: Source, A: Addresser>(
     ensures cause { IfErr result (IsStoringFault (S.faults source.old) (S.faults source.new)
         (S.left source.old)) }
     ensures later { S.faults source.old ≤ S.faults source.new }
-    ensures err { IfErr result (λ f. (key : List ℕ) (start : Shown) →
+    ensures err { IfErr result (λ f. (key : List ℕ) (start : Shown B.tells) →
         IsTaking (A.name naming.now) session.now start (B.shows asker.old)
         upper.old.items lower.old.items [] →
-        IsStopped session.now key start (B.shows asker.new) f) }
+        HasHalted (A.name naming.now) session.now key start (B.shows asker.new)
+        (S.left source.old) (S.left source.new) [] f) }
 {
     let mut bytes = 0;
     while bytes < MOST_FILE {
@@ -148,16 +152,17 @@ fn finish<B: Asker, A: Addresser>(
     requires going { (B.shows asker.old).ended ≡ None }
     requires whole { IsWhole (A.name naming.now) session.now
         (B.shows asker.old) upper.old.items lower.old.items bytes }
-    ensures ok { IfOk result (λ top. (start : Shown) (file : List ℕ) →
+    ensures ok { IfOk result (λ top. (start : Shown B.tells) (file : List ℕ) →
         IsGathered (A.name naming.now) session.now start (B.shows asker.old)
         upper.old.items lower.old.items file → bytes ≡ length file →
         HasTop (A.name naming.now) session.now start (B.shows asker.new) top file) }
     ensures going { OnOk result ((B.shows asker.new).ended ≡ None) }
     ensures kind { IfErr result IsAskFault }
-    ensures err { IfErr result (λ f. (key : List ℕ) (start : Shown) (file : List ℕ) →
+    ensures err { IfErr result (λ f. (key : List ℕ) (start : Shown B.tells) (file : List ℕ) →
         IsGathered (A.name naming.now) session.now start (B.shows asker.old)
         upper.old.items lower.old.items file → bytes ≡ length file →
-        IsStopped session.now key start (B.shows asker.new) f) }
+        IsHalted (A.name naming.now) session.now key start (B.shows asker.new)
+        (tree_of stored_cut (A.name naming.now) file) f) }
 {
     if upper.is_empty() && lower.len() == 1 {
         return Ok(lower[0]);
@@ -181,13 +186,14 @@ fn begin<B: Asker, A: Addresser>(
 ) -> Result<(), TreeFault>
     requires going { (B.shows asker.old).ended ≡ None }
     requires ours { session.now ≡ our_session }
-    requires idle { IfSome (B.shows asker.old).began (λ b.
+    requires idle { IfTold (B.shows asker.old) (λ b.
         IsIdle (A.name _naming.now) b (B.shows asker.old)) }
     ensures ok { OnOk result (IsGrown (A.name _naming.now) our_session
         (B.shows asker.old) (B.shows asker.new) [] []) }
     ensures kind { IfErr result IsAskFault }
     ensures err { IfErr result (λ f. (key : List ℕ) →
         IsStopped our_session key (B.shows asker.old) (B.shows asker.new) f) }
+    ensures unwritten { OnErr result (IsUnwritten (B.shows asker.old) (B.shows asker.new)) }
 {
     asker.known();
     open(alloc, asker, session)
@@ -203,12 +209,14 @@ pub fn store_file<B: Asker, S: Source, A: Addresser>(
     key: &Key,
 ) -> Result<u64, TreeFault>
     requires going { (B.shows asker.old).ended ≡ None }
-    requires idle { IfSome (B.shows asker.old).began (λ b.
+    requires idle { IfTold (B.shows asker.old) (λ b.
         IsIdle (A.name naming.now) b (B.shows asker.old)) }
     ensures stored { IfOk result (λ bytes. HasStored (A.name naming.now) key.now
         (B.shows asker.old) (B.shows asker.new) (S.left source.old) (S.left source.new) bytes) }
     ensures stopped { IfErr result (λ f.
         IsStopped our_session key.now (B.shows asker.old) (B.shows asker.new) f) }
+    ensures unfinished { OnErr result (IsUnfinished (A.name naming.now)
+        (B.shows asker.old) (B.shows asker.new) (S.left source.old) (S.left source.new)) }
     // A fault of the source is counted, and a file is too long only where another byte came.
     ensures cause { IfErr result (IsStoringFault (S.faults source.old) (S.faults source.new)
         (S.left source.old)) }

@@ -1,9 +1,9 @@
 //! Pieces of a file, as a source gives them.
-ghost use Rattle.std.specs.Prelude.{◌≡◌, ◌<◌, ◌≤◌, [], false, length, IfOk, IfErr, IfSome, IsTrue, OnOk};
+ghost use Rattle.std.specs.Prelude.{◌≡◌, ◌<◌, ◌≤◌, [], false, length, IfOk, IfErr, IfSome, IsTrue, OnErr, OnOk};
 ghost use Rattle.hs_limits.specs.declared.spelling.TheConstants.{MOST_BYTES};
 ghost use Rattle.hs_ports.specs.Fault.{HasRisen};
-ghost use Rattle.hs_ports.specs.Source.{IsEnded, Took, before};
-ghost use Rattle.hs_tree.specs.Calls.{IsTakeFault};
+ghost use Rattle.hs_ports.specs.Source.{IsEnded, Took, Untaken, before};
+ghost use Rattle.hs_tree.specs.Calls.{HasGone, IsTakeFault};
 
 use crate::TreeFault;
 use hs_limits::MOST_BYTES;
@@ -23,6 +23,7 @@ pub(crate) fn take_piece<S: Source>(
         length piece.items < most → IsEnded (S.left source.new)) }
     ensures fault { IfErr result (λ fault.
         IsTakeFault (S.faults source.old) (S.faults source.new) fault) }
+    ensures gone { OnErr result (HasGone (S.left source.old) (S.left source.new)) }
     ensures later { S.faults source.old ≤ S.faults source.new }
 {
     let mut piece = Vec::new(alloc);
@@ -40,6 +41,8 @@ fn take_some<S: Source>(source: &mut S, max: usize, into: &mut Vec<u8>) -> Resul
     requires { 0 < max }
     ensures taken { IfOk result (λ n.
         Took (S.left source.old) into.old.items (S.left source.new) into.new.items max n) }
+    ensures untaken { OnErr result (Untaken (S.left source.old) into.old.items
+        (S.left source.new) into.new.items) }
     ensures calm { OnOk result (S.faults source.new ≡ S.faults source.old) }
     ensures fault { IfErr result (λ fault.
         IsTakeFault (S.faults source.old) (S.faults source.new) fault) }
@@ -58,6 +61,7 @@ pub(crate) fn is_at_end<S: Source>(alloc: Global, source: &mut S) -> Result<bool
         × (S.left source.new ≡ S.left source.old)) }
     ensures more { IfOk result (λ ended. ended ≡ false →
         IfSome (S.left source.old) (λ rest. 0 < length rest)) }
+    ensures gone { HasGone (S.left source.old) (S.left source.new) }
     ensures fault { IfErr result (λ fault.
         IsTakeFault (S.faults source.old) (S.faults source.new) fault) }
     ensures later { S.faults source.old ≤ S.faults source.new }

@@ -229,7 +229,8 @@ came tells slip slip' a b (done.Failed disk) noted did place later = (
     stored = ap (λ (s : Slip). s.stored) noted;
     shown = ap (λ (s : Slip). s.shown) noted ∙ append-nil slip.shown;
     later = later;
-    cause = did;
+    cause = did.0;
+    kept = did.1;
   },
 )
 
@@ -316,6 +317,7 @@ ends_failed tells s t u v a b c given j goes gives is on fails_on came_on =
         shown = fails.shown;
         later = fails.later;
         cause = fails.cause;
+        kept = fails.kept;
       }),
     )
 

@@ -105,6 +105,10 @@ pub record WorksOn (tells : Type 0) (a b : Bench) (stored : List ℕ) (shown : L
 abbrev pub DiskFailed : Type 0 → Bench → Bench → Type 0
 DiskFailed tells a b = HasRisen a.faults b.faults ⊎ (tells → ⊥)
 
+-- the log has sealed what it had, and what waits is as it was
+abbrev pub KeepsRanks : Bench → Bench → Type 0
+KeepsRanks a b = (b.log.rank ≡ a.log.rank) × (b.log.waits ≡ a.log.waits)
+
 -- what is reported of one job is what was done
 abbrev pub HasDone : Type 0 → Bench → Bench → Done → Type 0
 HasDone tells a b (done.Stored number) = WorksOn tells a b (stored_by (done.Stored number)) []
@@ -114,7 +118,7 @@ HasDone tells a b (done.Gone number) = WorksOn tells a b [] [] × (tells → (li
 HasDone tells a b done.Emptied = ⊥
 HasDone tells a b (done.Copied number) = ⊥
 HasDone tells a b (done.Stepped switched) = ⊥
-HasDone tells a b (done.Failed disk) = DiskFailed tells a b
+HasDone tells a b (done.Failed disk) = DiskFailed tells a b × KeepsRanks a b
 
 -- whether a report tells that a disk failed
 abbrev pub is_failed : Done → Bool
@@ -152,7 +156,7 @@ pub record RestsSealed (tells : Type 0) (slip' : Slip) (b : Bench) : Type 0 wher
   pub sealed : b.log.waits ≡ None
   pub in_place : IsInPlace tells b
 
--- a slip grew so up to a slip and a bench, and then by a 0, as the disk failed
+-- a slip grew so up to a slip and a bench, and then by a 0, as the disk failed, which left the log's ranks
 pub record GrowsAndFails (tells : Type 0) (slip slip' : Slip) (a b : Bench) : Type 0 where
   pub before : Slip
   pub between : Bench
@@ -162,6 +166,7 @@ pub record GrowsAndFails (tells : Type 0) (slip slip' : Slip) (a b : Bench) : Ty
   pub shown : slip'.shown ≡ before.shown
   pub later : between.faults ≤ b.faults
   pub cause : DiskFailed tells between b
+  pub kept : KeepsRanks between b
 
 -- why a peer's work stopped, and what it did since the last report that was taken: of a fault that the slip has, behind nothing or a job whose report was not taken;
 -- of a number that was not the next one, in the work in hand, behind nothing; or for want of memory, behind nothing, or with a work in hand that left the log as it was

@@ -6,7 +6,7 @@ use std::sync::atomic::{AtomicU64, Ordering};
 /// What the gate and two disks share: a flag of each peer, a mark that its disk has begun, and whether each
 /// was let through by the mark of the other. 0 is no, 1 yes.
 #[derive(Drop)]
-pub(crate) struct Flags {
+pub struct Flags {
     raised_zero: AtomicU64,
     raised_one: AtomicU64,
     begun_zero: AtomicU64,
@@ -17,7 +17,7 @@ pub(crate) struct Flags {
 
 impl Flags {
     /// None is raised.
-    pub(crate) fn new() -> Flags {
+    pub fn new() -> Flags {
         Flags {
             raised_zero: AtomicU64::new(0),
             raised_one: AtomicU64::new(0),
@@ -53,7 +53,7 @@ impl Flags {
     }
 
     /// Whether both disks were let through.
-    pub(crate) fn are_through(&self) -> bool {
+    pub fn are_through(&self) -> bool {
         self.through_zero.load(Ordering::SeqCst) != 0
             && self.through_one.load(Ordering::SeqCst) != 0
     }
@@ -62,7 +62,7 @@ impl Flags {
 /// A disk that hands every call on, but holds its first write behind its peer's flag until the other disk has
 /// begun too, for at most so many turns.
 #[derive(Drop)]
-pub(crate) struct HeldDisk<'a, D> {
+pub struct HeldDisk<'a, D> {
     disk: D,
     flags: &'a Flags,
     peer: u8,
@@ -71,7 +71,7 @@ pub(crate) struct HeldDisk<'a, D> {
 
 impl<'a, D> HeldDisk<'a, D> {
     /// The disk of a peer, which is 0 or 1.
-    pub(crate) fn new(disk: D, flags: &'a Flags, peer: u8, turns: u64) -> HeldDisk<'a, D> {
+    pub fn new(disk: D, flags: &'a Flags, peer: u8, turns: u64) -> HeldDisk<'a, D> {
         HeldDisk {
             disk,
             flags,
@@ -151,12 +151,12 @@ impl<'a, D: Disk> Disk for HeldDisk<'a, D> {
 
 /// A gate that raises a peer's flag before its Appends.
 #[derive(Drop)]
-pub(crate) struct RaisingGate<'a> {
+pub struct RaisingGate<'a> {
     flags: &'a Flags,
 }
 
 impl<'a> RaisingGate<'a> {
-    pub(crate) fn new(flags: &'a Flags) -> RaisingGate<'a> {
+    pub fn new(flags: &'a Flags) -> RaisingGate<'a> {
         RaisingGate { flags }
     }
 }

@@ -15,3 +15,5 @@ mod running;
 mod shelf;
 mod team;
 mod turns;
+
+pub use held::{Flags, HeldDisk, RaisingGate};

@@ -15,12 +15,7 @@ later_option words =
 
 -- a command that a later step serves
 unfoldable pub later_command : List ℕ → Option Later
-later_command command =
-    if bytes_eq command (codes "load") then Some later.Load
-    else if bytes_eq command (codes "store") then Some later.Store
-    else if bytes_eq command (codes "fetch") then Some later.Fetch
-    else if bytes_eq command (codes "copy") then Some later.Copy
-    else None
+later_command command = if bytes_eq command (codes "copy") then Some later.Copy else None
 
 -- the first of these that a later step serves: the command, or an option of a script
 unfoldable pub later_part : List ℕ → List (List ℕ) → Option Later
@@ -36,9 +31,6 @@ later_in other = None
 -- the line on standard error of words outside the language
 abbrev pub later_text : Option Later → List ℕ
 later_text None = codes "hydra: see hydra --help\n"
-later_text (Some later.Load) = codes "hydra: load is not served yet: see hydra --help\n"
-later_text (Some later.Store) = codes "hydra: store is not served yet: see hydra --help\n"
-later_text (Some later.Fetch) = codes "hydra: fetch is not served yet: see hydra --help\n"
 later_text (Some later.Copy) = codes "hydra: copy is not served yet: see hydra --help\n"
 later_text (Some later.Visits) = codes "hydra: --visits is not served yet: see hydra --help\n"
 later_text (Some later.Cache) = codes "hydra: --cache is not served yet: see hydra --help\n"

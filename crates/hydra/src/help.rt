@@ -15,13 +15,16 @@ reads. A root keeps a block under a key, and with it all that the block points
 to, block by block. A deletion gives back the space of what no root keeps and no
 session has been given lately.
 
-Three commands are served so far:
+Six commands are served so far:
 
   hydra script DIR G R [options]
+  hydra load DIR G R --seed S --writers W [--files F]
+  hydra store DIR G R KEY
+  hydra fetch DIR G R KEY
   hydra audit DIR G R
   hydra scrub DIR G R [--from P]
 
-Not served yet: load, store, fetch and copy.
+Not served yet: copy.
 
 A script is read from standard input, and the answers go to standard output.
 G is the number of shards among which the blocks are parted: 1, 2, 4 or 8. R is
@@ -35,6 +38,27 @@ has a DIR: another is told so on standard error.
 A shard goes on as long as one of its disks is in use. One that fails, or is no
 log of a store, is out of use, which - down P tells, until a line start P empties
 it and fills it again. Each run begins by making the disks of a shard equal.
+
+A store takes standard input, to its end, as one file of at most 67,108,864 bytes
+and keeps it under KEY, 1 to 64 of a-z 0-9 . _ -; a folder goes through tar:
+
+  tar c FOLDER | hydra store DIR G R KEY
+  hydra fetch DIR G R KEY | tar x
+
+The file is cut into blocks of 65,536 bytes, of which those that are there already
+are kept once, and blocks that point to these. Nothing is printed; status 0 says
+that all of it is on the disks. A store that ends otherwise leaves KEY as it was,
+but where it was stopped or ends with 4, 7 or 10 KEY may keep the whole file: do it
+again; or two deletions give back what no KEY keeps. A KEY that keeps a file keeps
+it until a script drops it: to store the same again is done, and another one is
+refused. A fetch prints the file of KEY, and nothing before all of it is found.
+
+A load tries an empty store. W writers, 1 to 8, each a thread of its own, store F
+files each, 1 to 100, or 20 where it is not given, and drop every fourth; four
+deletions run beside them, and for each disk one more thread does what it owes.
+Two more deletions follow, and then it prints a line for each writer, how many
+files it stored and how many it kept, and how many roots and blocks there are.
+Equal seeds S, from 0 to 18446744073709551615, print equal text.
 
 An audit reads the files, and makes and writes none. It prints a line for each
 shard: its epoch, the last one that it swept, its blocks, its roots, and how many
@@ -117,8 +141,8 @@ Exit statuses. Each but 0 has its line on standard error, and before it may stan
 another: the file that failed and why, which word is not served yet, or what is
 wrong with the line of a script.
 
-   0  the script was read to its end; or an audit or a scrub was printed, whatever
-      it says
+   0  the script was read to its end; the file is stored, or was printed; or an
+      audit or a scrub was printed, whatever it says
    2  the words are not those of a command
    3  a line is not in the script language; the lines before it were run
    4  a shard has no peer left: each of its disks failed or is no log of a store,
@@ -128,8 +152,15 @@ wrong with the line of a script.
    6  the output could not be written
    7  out of memory
    8  a disk is of another store, or of another G or R; nothing was written to any
+   9  an answer that a writer of a load was given is not the one of the journal
   10  the run has as many answers as --ops allows, and one more was due
-  13  the input is too long
+  11  what a thread of a load wrote to a disk is not what the store counts on
+  12  the store that is to be loaded is not empty
+  13  the input is too long: a script above 4,294,967,296 bytes, a file above
+      67,108,864
+  14  a store or a fetch was refused, as its line says: the key keeps another
+      file, or none; or the store has no room
+  15  the key keeps a block that is no stored file
   16  the copy that --from names has no log, or its files failed; nothing was
       written
  126  of the launcher bin/hydra: the program could not be proved or built

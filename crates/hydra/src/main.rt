@@ -1,4 +1,5 @@
-//! The program: it runs a store by a script from standard input.
+//! The program: it runs a store by a script from standard input, loads it by threads, keeps files in it, and looks
+//! it over.
 #![tactic(auto)]
 
 mod bad_line;

@@ -2,6 +2,9 @@
 ghost use Rattle.std.specs.Prelude.{◌≡◌, ◌≢◌, None, IfOk, IsTrue, OnOk, map, string_bytes, vec_len};
 ghost use Rattle.std.specs.Io.KnownBytes.{Appends};
 ghost use Rattle.std.specs.List.{list_all, list_any};
+ghost use Rattle.hs_ports.specs.Objects.{handed};
+ghost use Rattle.hs_promise.specs.Run.{ran_of};
+ghost use Rattle.hs_top.specs.Calls.{IsCalled};
 ghost use Rattle.hs_top.specs.Status.{fault_text};
 ghost use Rattle.hs_top.specs.Words.{shape_in};
 ghost use Rattle.hydra.specs.CommandLine.{IsFaulty, peers_in};
@@ -14,10 +17,10 @@ use crate::help::{HELP, VERSION};
 use crate::notes::{note_of, tell_file};
 use crate::streams::{ReaderSource, WriterSink};
 use crate::usage::tell_usage;
-use hs_block::ShaNames;
-use hs_ports::Watch;
-use hs_promise::Status;
-use hs_top::{fault_line, shape_of};
+use hs_block::{Addresser, ShaNames};
+use hs_ports::{Disk, Sink, Source, Watch};
+use hs_promise::{Outcome, Status};
+use hs_top::{fault_line, hydra, hydra_alone, is_load, shape_of};
 use std::alloc::{AllocError, Global};
 use std::fs::File;
 use std::io::{ErrorKind, Read, Write};
@@ -99,7 +102,7 @@ where
     let _ = tell_taken(errors, &disks);
     let mut sink = WriterSink::new(output);
     let mut watch = Watch::new();
-    let outcome = hs_top::hydra(
+    let outcome = do_words(
         alloc,
         rt,
         words,
@@ -114,6 +117,37 @@ where
     }
     let _ = tell_cause(errors, cause_of_end(&outcome.status, &source));
     outcome.status
+}
+
+// Does what the words ask for: a load by threads, and every other command without, so that it returns.
+fn do_words<
+    H: Threads + Wait + Sync,
+    A: Addresser + Sync,
+    S: Source,
+    K: Sink,
+    D: Disk + Drop + Send,
+>(
+    alloc: Global,
+    rt: &H,
+    words: &[String],
+    naming: &A,
+    source: &mut S,
+    sink: &mut K,
+    disks: &mut Vec<D>,
+    watch: &mut Watch,
+) -> Outcome
+    ensures called { IsCalled D.tells (A.name naming.now) (map (λ word. string_bytes word) words.now)
+        (ran_of result
+        (handed watch.old (map (λ disk. (D.stands disk, D.faults disk)) disks.old.items)
+        (K.got sink.old, K.faults sink.old) (S.left source.old, S.faults source.old))
+        (handed watch.new (map (λ disk. (D.stands disk, D.faults disk)) disks.new.items)
+        (K.got sink.new, K.faults sink.new) (S.left source.new, S.faults source.new))) }
+{
+    if is_load(words) {
+        hydra(alloc, rt, words, naming, source, sink, disks, watch)
+    } else {
+        hydra_alone(alloc, words, naming, source, sink, disks, watch)
+    }
 }
 
 // What is wrong with the line at which the script ended, where it ended at a bad one.
@@ -135,8 +169,8 @@ fn dir_of(words: &[String]) -> &str {
     }
 }
 
-/// The disks of the peers under the folder that the words name, which a script makes where it is
-/// absent, and nothing else; none where they name no shape.
+/// The disks of the peers under the folder that the words name, which a script, a load and a store make
+/// where it is absent, and nothing else; none where they name no shape.
 pub fn disks_of<R: Files<File = File>>(
     rt: &R,
     alloc: Global,
@@ -151,7 +185,7 @@ pub fn disks_of<R: Files<File = File>>(
     match shape_of(words) {
         Some(shape) => {
             let dir = dir_of(words);
-            let makes = is_script(words);
+            let makes = makes_files(words);
             let made = if makes {
                 fs::create_dir_all(rt, dir).err()
             } else {
@@ -164,10 +198,14 @@ pub fn disks_of<R: Files<File = File>>(
     }
 }
 
-// Whether the words begin with the command that makes files.
-fn is_script(words: &[String]) -> bool {
+// Whether the words begin with a command that makes files.
+fn makes_files(words: &[String]) -> bool {
     match words {
-        [command, ..] => command.as_bytes() == b"script".as_slice(),
+        [command, ..] => {
+            command.as_bytes() == b"script".as_slice()
+                || command.as_bytes() == b"load".as_slice()
+                || command.as_bytes() == b"store".as_slice()
+        }
         [] => false,
     }
 }

@@ -11,9 +11,6 @@ use std::io::Write;
 /// A part of the command language that a later step serves.
 #[derive(Clone, Copy)]
 pub enum Later {
-    Load,
-    Store,
-    Fetch,
     Copy,
     Visits,
     Cache,
@@ -37,9 +34,6 @@ fn later_line(later: Option<Later>) -> &'static str
 {
     match later {
         None => "hydra: see hydra --help\n",
-        Some(Later::Load) => "hydra: load is not served yet: see hydra --help\n",
-        Some(Later::Store) => "hydra: store is not served yet: see hydra --help\n",
-        Some(Later::Fetch) => "hydra: fetch is not served yet: see hydra --help\n",
         Some(Later::Copy) => "hydra: copy is not served yet: see hydra --help\n",
         Some(Later::Visits) => "hydra: --visits is not served yet: see hydra --help\n",
         Some(Later::Cache) => "hydra: --cache is not served yet: see hydra --help\n",
@@ -73,13 +67,7 @@ fn later_part(command: &[u8], options: &[String]) -> Option<Later>
 fn later_command(command: &[u8]) -> Option<Later>
     ensures { result ≡ later_command command.now }
 {
-    if command == b"load".as_slice() {
-        Some(Later::Load)
-    } else if command == b"store".as_slice() {
-        Some(Later::Store)
-    } else if command == b"fetch".as_slice() {
-        Some(Later::Fetch)
-    } else if command == b"copy".as_slice() {
+    if command == b"copy".as_slice() {
         Some(Later::Copy)
     } else {
         None

@@ -3,7 +3,7 @@ use Rattle.hs_asking.proofs.SaneLemmas.{answers_sane}
 use Rattle.hs_asking.proofs.laws.an_ask_is_judged.Goals as goal
 
 pub returns-clause-judged : goal.returns-clause-judged
-returns-clause-judged c = ask_judged
+returns-clause-judged g c = ask_judged
 
 pub returns-clause-sane : goal.returns-clause-sane
-returns-clause-sane c = answers_sane
+returns-clause-sane g c = answers_sane

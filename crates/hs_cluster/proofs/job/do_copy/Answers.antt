@@ -1,10 +1,13 @@
-use Rattle.std.proofs.Common.{◌≡◌, ◌∙◌, ◌<◌, Some, arith, inl, length, map, refl, slice_set, subst}
+use Rattle.std.proofs.Common.{◌≡◌, ◌∙◌, ◌<◌, Some, arith, inl, length, map, refl, slice_set, subst, sym}
 use Rattle.std.specs.Prelude.{slice_index_or}
 use Rattle.std.proofs.lemmas.Grind.{common_steps}
 use Rattle.std.proofs.lemmas.List.{length-set}
 use Rattle.hs_cluster.proofs.CountLemmas.{copied_results, falls_not, falls_then, paid_at, rises_not, stand_at, stand_failed, stand_then}
 use Rattle.hs_cluster.proofs.CopyLemmas.{beside_one, beside_read, beside_same, beside_then, lead_answers, told_as, works_copied, works_read}
 use Rattle.hs_cluster.proofs.DiskLemmas.{at_ok, ready_slot, since_of, slot_at}
+use Rattle.hs_cluster.proofs.GrowingLemmas.{goes_at, goes_same, goes_then, slot_gone, slot_same}
+use Rattle.hs_cluster.proofs.HeadLemmas.{headed_still, heads_at, heads_on, heads_stay, none_there}
+use Rattle.hs_cluster.specs.Headed.{StaysHeaded}
 use Rattle.hs_cluster.specs.Jobs.{HasCopied, TellsBytes}
 use Rattle.hs_desk.specs.declared.done.Done.TheVariants as done
 use Rattle.hs_desk.specs.declared.job.Job.TheVariants as job
@@ -151,3 +154,69 @@ returns-in-Err-clause-beside g c =
     let in_disks : c.from-source.result < length c.args.disks.now = grind (arith, common_steps) in
     let source : c.from-source.result ≡ c.args.from = grind (arith, common_steps) in
     beside_read g.D.Disk.tells f c.args.disks.now c.args.peer c.args.from c.from-source.result c.args.number c.index-disks-source.result c.read_copy.new.disk source in_disks c.read_copy.ensures.same
+
+-- ---- the lists go on
+
+pub returns-then-source-len-clause-goes_on : goal.returns-then-source-len-clause-goes_on
+returns-then-source-len-clause-goes_on g c = λ told p.
+    let f : g.row.D.Denot → DiskSeen = λ disk. seen_as (g.D.Disk.size disk) (g.D.Disk.stands disk) (g.D.Disk.faults disk) in
+    goes_same c.args.logs.now.items (map f c.args.disks.now) p
+
+pub returns-in-Ok-clause-goes_on : goal.returns-in-Ok-clause-goes_on
+returns-in-Ok-clause-goes_on g c = λ told p.
+    let f : g.row.D.Denot → DiskSeen = λ disk. seen_as (g.D.Disk.size disk) (g.D.Disk.stands disk) (g.D.Disk.faults disk) in
+    let logs = slice_set c.args.logs.now.items c.from-source.result c.read_copy.new.slot in
+    let disks = slice_set c.args.disks.now c.from-source.result c.read_copy.new.disk in
+    let item : c.index_mut.result.now ≡ log_at c.args.logs.now.items c.from-source.result = grind (arith, common_steps) in
+    let in_logs : c.from-source.result < length c.args.logs.now.items = grind (arith, common_steps) in
+    let in_disks : c.from-source.result < length c.args.disks.now = grind (arith, common_steps) in
+    let here : c.index_mut-in-Ok.result.now ≡ log_at logs c.from-place.result = grind (arith, common_steps) in
+    let low_logs : c.from-place.result < length logs = grind (arith, common_steps, length-set c.args.logs.now.items c.from-source.result c.read_copy.new.slot) in
+    let low : c.from-place.result < length disks = grind (arith, common_steps, length-set c.args.disks.now c.from-source.result c.read_copy.new.disk) in
+    goes_then c.args.logs.now.items logs (slice_set logs c.from-place.result c.write_copy.new.slot) (map f c.args.disks.now) (map f disks) (map f (slice_set disks c.from-place.result c.write_copy.new.disk)) p
+    (goes_at c.args.logs.now.items c.args.disks.now f c.from-source.result c.index_mut.result.now c.read_copy.new.slot c.index-disks-source.result c.read_copy.new.disk p item in_logs in_disks
+    (λ e. slot_same _ _ _ _ c.in-Ok.ensures.kept (c.read_copy.ensures.same told)))
+    (goes_at logs disks f c.from-place.result c.index_mut-in-Ok.result.now c.write_copy.new.slot c.index-disks-place.result c.write_copy.new.disk p here low_logs low (λ e. c.write_copy.ensures.goes_on told))
+
+pub returns-in-Err-clause-goes_on : goal.returns-in-Err-clause-goes_on
+returns-in-Err-clause-goes_on g c = λ told p.
+    let f : g.row.D.Denot → DiskSeen = λ disk. seen_as (g.D.Disk.size disk) (g.D.Disk.stands disk) (g.D.Disk.faults disk) in
+    let item : c.index_mut.result.now ≡ log_at c.args.logs.now.items c.from-source.result = grind (arith, common_steps) in
+    let in_logs : c.from-source.result < length c.args.logs.now.items = grind (arith, common_steps) in
+    let in_disks : c.from-source.result < length c.args.disks.now = grind (arith, common_steps) in
+    goes_at c.args.logs.now.items c.args.disks.now f c.from-source.result c.index_mut.result.now c.read_copy.new.slot c.index-disks-source.result c.read_copy.new.disk p item in_logs in_disks (λ e. slot_gone _ _ _ _ c.in-Err.ensures.out)
+
+-- ---- whose header a stop leaves
+
+pub returns-then-source-len-clause-headed : goal.returns-then-source-len-clause-headed
+returns-then-source-len-clause-headed g c = λ told p header headed.
+    let f : g.row.D.Denot → DiskSeen = λ disk. seen_as (g.D.Disk.size disk) (g.D.Disk.stands disk) (g.D.Disk.faults disk) in
+    heads_stay header c.args.watch.now c.args.logs.now.items c.args.logs.now.items (map f c.args.disks.now) p (since_of f c.args.disks.now (g.met.D.Disk.since told) p) (λ keeping at. at) headed
+
+pub returns-in-Ok-clause-headed : goal.returns-in-Ok-clause-headed
+returns-in-Ok-clause-headed g c = λ told p header headed.
+    let f : g.row.D.Denot → DiskSeen = λ disk. seen_as (g.D.Disk.size disk) (g.D.Disk.stands disk) (g.D.Disk.faults disk) in
+    let logs = slice_set c.args.logs.now.items c.from-source.result c.read_copy.new.slot in
+    let disks = slice_set c.args.disks.now c.from-source.result c.read_copy.new.disk in
+    let item : c.index_mut.result.now ≡ log_at c.args.logs.now.items c.from-source.result = grind (arith, common_steps) in
+    let in_logs : c.from-source.result < length c.args.logs.now.items = grind (arith, common_steps) in
+    let in_disks : c.from-source.result < length c.args.disks.now = grind (arith, common_steps) in
+    let here : c.index_mut-in-Ok.result.now ≡ log_at logs c.from-place.result = grind (arith, common_steps) in
+    let low_logs : c.from-place.result < length logs = grind (arith, common_steps, length-set c.args.logs.now.items c.from-source.result c.read_copy.new.slot) in
+    let low : c.from-place.result < length disks = grind (arith, common_steps, length-set c.args.disks.now c.from-source.result c.read_copy.new.disk) in
+    heads_on header c.args.watch.now c.args.watch.now c.write_copy.new.watch logs (slice_set logs c.from-place.result c.write_copy.new.slot) (map f c.args.disks.now) (map f disks) (map f (slice_set disks c.from-place.result c.write_copy.new.disk)) p
+    (heads_at header c.args.watch.now c.args.watch.now c.args.logs.now.items c.args.disks.now f c.from-source.result c.index_mut.result.now c.read_copy.new.slot c.index-disks-source.result c.read_copy.new.disk p (omega arith) (since_of f c.args.disks.now (g.met.D.Disk.since told) p) item in_logs in_disks
+    (λ e one. subst (λ d. StaysHeaded header c.args.watch.now c.args.watch.now (f (slice_index_or c.args.disks.now c.from-source.result c.index-disks-source.result)).stands d c.read_copy.new.slot) (sym (c.read_copy.ensures.same told))
+    (headed_still header c.args.watch.now c.index_mut.result.now c.read_copy.new.slot _ (g.met.D.Disk.since told _) one (λ keeping at. sym c.in-Ok.ensures.kept ∙ at))) headed)
+    (λ mid. heads_at header c.args.watch.now c.write_copy.new.watch logs disks f c.from-place.result c.index_mut-in-Ok.result.now c.write_copy.new.slot c.index-disks-place.result c.write_copy.new.disk p c.write_copy.ensures.ticks (since_of f disks (g.met.D.Disk.since told) p) here low_logs low
+    (λ e one. c.write_copy.ensures.headed told header one) mid)
+
+pub returns-in-Err-clause-headed : goal.returns-in-Err-clause-headed
+returns-in-Err-clause-headed g c = λ told p header headed.
+    let f : g.row.D.Denot → DiskSeen = λ disk. seen_as (g.D.Disk.size disk) (g.D.Disk.stands disk) (g.D.Disk.faults disk) in
+    let item : c.index_mut.result.now ≡ log_at c.args.logs.now.items c.from-source.result = grind (arith, common_steps) in
+    let in_logs : c.from-source.result < length c.args.logs.now.items = grind (arith, common_steps) in
+    let in_disks : c.from-source.result < length c.args.disks.now = grind (arith, common_steps) in
+    heads_at header c.args.watch.now c.args.watch.now c.args.logs.now.items c.args.disks.now f c.from-source.result c.index_mut.result.now c.read_copy.new.slot c.index-disks-source.result c.read_copy.new.disk p (omega arith) (since_of f c.args.disks.now (g.met.D.Disk.since told) p) item in_logs in_disks
+    (λ e one. subst (λ d. StaysHeaded header c.args.watch.now c.args.watch.now (f (slice_index_or c.args.disks.now c.from-source.result c.index-disks-source.result)).stands d c.read_copy.new.slot) (sym (c.read_copy.ensures.same told))
+    (headed_still header c.args.watch.now c.index_mut.result.now c.read_copy.new.slot _ (g.met.D.Disk.since told _) one (λ keeping at. none_there keeping (sym c.in-Err.ensures.out ∙ at)))) headed

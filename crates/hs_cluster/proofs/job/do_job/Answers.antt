@@ -1,17 +1,19 @@
-use Rattle.std.proofs.Common.{rules, ◌≡◌, ◌∙◌, ◌<◌, ◌≤◌, Some, ap, arith, length, map, refl, slice_set, subst, sym, true}
+use Rattle.std.proofs.Common.{rules, ◌≡◌, ◌∙◌, ◌<◌, Some, false, ap, arith, length, map, refl, slice_set, subst, sym, true}
 use Rattle.std.proofs.lemmas.Grind.{common_steps}
-use Rattle.std.specs.Prelude.{IfOk, IsSome, slice_index_or}
+use Rattle.std.specs.Prelude.{IfOk, IsSome}
 use Rattle.hs_cluster.proofs.CopyLemmas.{beside_one, beside_same, usual_own, works_cut, works_own, works_reset}
 use Rattle.hs_cluster.proofs.CountLemmas.{all_paid_result, copy_paid_result, falls_not, falls_same, job_paid_result, paid_at, stand_at}
 use Rattle.hs_cluster.proofs.DiskLemmas.{log_read, not_own, reads_at, since_of, slot_at, stored_as, works_at, works_nothing}
+use Rattle.hs_cluster.proofs.GrowingLemmas.{goes_at, goes_same}
+use Rattle.hs_cluster.proofs.HeadLemmas.{heads_at, heads_stay}
 use Rattle.hs_cluster.specs.Disks.{DiskSeen, log_at, seen_as}
 use Rattle.hs_cluster.specs.declared.fault.ClusterFault.TheVariants.{NoMemory}
-use Rattle.hs_cluster.specs.Jobs.{Empties, FailsAlone, StandsBeside, Works, WorksAlone, is_own}
-use Rattle.hs_core_words.specs.Looking.{catalogue_of, first_job, home}
+use Rattle.hs_cluster.specs.Jobs.{FailsAlone, StandsBeside, Works, WorksAlone, is_own}
+use Rattle.hs_core_words.specs.Looking.{catalogue_of, first_job, home, status_of}
 use Rattle.hs_desk.specs.declared.job.Job.{Job}
 use Rattle.hs_desk.specs.declared.job.Job.TheVariants as job
 use Rattle.hs_limits.specs.declared.shape.Shape.{Shape}
-use Rattle.hs_members.specs.Members.{home_of}
+use Rattle.hs_members.specs.Members.{home_of, is_joining}
 use Rattle.hs_side.specs.Headers.{own_header}
 use Rattle.hs_cluster.proofs.job.do_job.Goals as goal
 
@@ -37,7 +39,6 @@ returns-in-Reset-clause-works g c = λ told.
     let low_logs : c.from-place.result < length c.args.logs.now.items = grind (arith, common_steps) in
     let place : c.from-place.result ≡ c.args.peer = grind (arith, common_steps) in
     let first : Some c.in-Some.job.now ≡ first_job c.args.peer c.args.core.now = first_of (search rules, grind (arith, common_steps)) in
-    let shape : c.shape.result ≡ c.args.core.now.members.shape = c.shape.ensures.value in
     subst (λ k. Works (own_header c.args.core.now.members.shape c.args.peer) (record {
       peer = k;
       before = c.args.watch.now;
@@ -49,14 +50,7 @@ returns-in-Reset-clause-works g c = λ told.
     }) (first_job c.args.peer c.args.core.now) c.do_reset.result) place
     (works_reset (own_header c.args.core.now.members.shape c.args.peer) c.args.logs.now.items c.args.disks.now f c.from-place.result c.args.watch.now c.do_reset.new.watch c.index_mut.result.now c.do_reset.new.slot c.index-disks-place.result c.do_reset.new.disk
     (first_job c.args.peer c.args.core.now) c.do_reset.result item low_logs low (sym first ∙ ap (λ (j : Job). Some j) c.in-Reset.is)
-    (subst (λ (s : Shape). (f (slice_index_or c.args.disks.now c.from-place.result c.index-disks-place.result)).stands.last ≤ c.args.watch.now → Empties (own_header s c.args.peer) (record {
-      before = c.args.watch.now;
-      now = c.do_reset.new.watch;
-      slot = c.index_mut.result.now;
-      kept = c.do_reset.new.slot;
-      old = (f (slice_index_or c.args.disks.now c.from-place.result c.index-disks-place.result)).stands;
-      new = (f c.do_reset.new.disk).stands;
-    }) c.do_reset.result) shape (c.do_reset.ensures.empties told))
+    (c.do_reset.ensures.empties told)
     (subst (λ k. IfOk c.do_reset.result (FailsAlone k)) (sym place) c.do_reset.ensures.fails))
 
 pub returns-in-Copy-clause-works : goal.returns-in-Copy-clause-works
@@ -179,7 +173,7 @@ returns-in-Append-clause-read g c = λ told own list waiting has stored.
     let low : c.from-place.result < length c.args.disks.now = grind (arith, common_steps) in
     let place : c.from-place.result ≡ c.args.peer = grind (arith, common_steps) in
     let first : Some c.in-Some.job.now ≡ first_job c.args.peer c.args.core.now = first_of (search rules, grind (arith, common_steps)) in
-    let shard : c.home_of.result ≡ home c.args.peer c.args.core.now = c.home_of.ensures.home ∙ ap (λ (s : Shape). home_of s c.args.peer) c.shape-in-Append.ensures.value in
+    let shard : c.home_of.result ≡ home c.args.peer c.args.core.now = c.home_of.ensures.home ∙ ap (λ (s : Shape). home_of s c.args.peer) c.shape.ensures.value in
     all_paid_result c.args.core.now c.args.peer c.do_usual.result (map f c.args.disks.now) (map f (slice_set c.args.disks.now c.from-place.result c.do_usual.new.disk))
     (paid_at f c.args.disks.now c.args.peer c.from-place.result c.index-disks-place-in-Append.result c.do_usual.new.disk c.do_usual.result place low
     (c.do_usual.ensures.read told list waiting
@@ -255,3 +249,60 @@ returns-in-Append-clause-beside g c =
     let f : g.row.D.Denot → DiskSeen = λ disk. seen_as (g.D.Disk.size disk) (g.D.Disk.stands disk) (g.D.Disk.faults disk) in
     let place : c.from-place.result ≡ c.args.peer = grind (arith, common_steps) in
     beside_one g.D.Disk.tells f c.args.disks.now c.args.peer c.from-place.result c.do_usual.new.disk (first_job c.args.peer c.args.core.now) place
+
+-- ---- the lists go on
+
+pub returns-in_default-clause-goes_on : goal.returns-in_default-clause-goes_on
+returns-in_default-clause-goes_on g c = λ told p apart.
+    let f : g.row.D.Denot → DiskSeen = λ disk. seen_as (g.D.Disk.size disk) (g.D.Disk.stands disk) (g.D.Disk.faults disk) in
+    goes_same c.args.logs.now.items (map f c.args.disks.now) p
+
+pub returns-in-Reset-clause-goes_on : goal.returns-in-Reset-clause-goes_on
+returns-in-Reset-clause-goes_on g c = λ told p apart.
+    let f : g.row.D.Denot → DiskSeen = λ disk. seen_as (g.D.Disk.size disk) (g.D.Disk.stands disk) (g.D.Disk.faults disk) in
+    let item : c.index_mut.result.now ≡ log_at c.args.logs.now.items c.from-place.result = grind (arith, common_steps) in
+    let low : c.from-place.result < length c.args.disks.now = grind (arith, common_steps) in
+    let low_logs : c.from-place.result < length c.args.logs.now.items = grind (arith, common_steps) in
+    let place : c.from-place.result ≡ c.args.peer = grind (arith, common_steps) in
+    goes_at c.args.logs.now.items c.args.disks.now f c.from-place.result c.index_mut.result.now c.do_reset.new.slot c.index-disks-place.result c.do_reset.new.disk p item low_logs low
+    (λ e. c.do_reset.ensures.goes_on told (subst (λ k. is_joining (status_of k c.args.core.now) ≡ false) (sym e ∙ place) apart))
+
+pub returns-in-Copy-clause-goes_on : goal.returns-in-Copy-clause-goes_on
+returns-in-Copy-clause-goes_on g c = λ told p apart. c.do_copy.ensures.goes_on told p
+
+pub returns-in-Append-clause-goes_on : goal.returns-in-Append-clause-goes_on
+returns-in-Append-clause-goes_on g c = λ told p apart.
+    let f : g.row.D.Denot → DiskSeen = λ disk. seen_as (g.D.Disk.size disk) (g.D.Disk.stands disk) (g.D.Disk.faults disk) in
+    let item : c.index_mut-in-Append.result.now ≡ log_at c.args.logs.now.items c.from-place.result = grind (arith, common_steps) in
+    let low : c.from-place.result < length c.args.disks.now = grind (arith, common_steps) in
+    let low_logs : c.from-place.result < length c.args.logs.now.items = grind (arith, common_steps) in
+    goes_at c.args.logs.now.items c.args.disks.now f c.from-place.result c.index_mut-in-Append.result.now c.do_usual.new.slot c.index-disks-place-in-Append.result c.do_usual.new.disk p item low_logs low (λ e. c.do_usual.ensures.goes_on told)
+
+-- ---- whose header a stop leaves
+
+pub returns-in_default-clause-headed : goal.returns-in_default-clause-headed
+returns-in_default-clause-headed g c = λ told p apart header headed.
+    let f : g.row.D.Denot → DiskSeen = λ disk. seen_as (g.D.Disk.size disk) (g.D.Disk.stands disk) (g.D.Disk.faults disk) in
+    heads_stay header c.args.watch.now c.args.logs.now.items c.args.logs.now.items (map f c.args.disks.now) p (since_of f c.args.disks.now (g.met.D.Disk.since told) p) (λ keeping at. at) headed
+
+pub returns-in-Reset-clause-headed : goal.returns-in-Reset-clause-headed
+returns-in-Reset-clause-headed g c = λ told p apart header headed.
+    let f : g.row.D.Denot → DiskSeen = λ disk. seen_as (g.D.Disk.size disk) (g.D.Disk.stands disk) (g.D.Disk.faults disk) in
+    let item : c.index_mut.result.now ≡ log_at c.args.logs.now.items c.from-place.result = grind (arith, common_steps) in
+    let low : c.from-place.result < length c.args.disks.now = grind (arith, common_steps) in
+    let low_logs : c.from-place.result < length c.args.logs.now.items = grind (arith, common_steps) in
+    let place : c.from-place.result ≡ c.args.peer = grind (arith, common_steps) in
+    heads_at header c.args.watch.now c.do_reset.new.watch c.args.logs.now.items c.args.disks.now f c.from-place.result c.index_mut.result.now c.do_reset.new.slot c.index-disks-place.result c.do_reset.new.disk p c.do_reset.ensures.ticks (since_of f c.args.disks.now (g.met.D.Disk.since told) p) item low_logs low
+    (λ e one. c.do_reset.ensures.headed told (subst (λ k. is_joining (status_of k c.args.core.now) ≡ false) (sym e ∙ place) apart) header one) headed
+
+pub returns-in-Copy-clause-headed : goal.returns-in-Copy-clause-headed
+returns-in-Copy-clause-headed g c = λ told p apart header headed. c.do_copy.ensures.headed told p header headed
+
+pub returns-in-Append-clause-headed : goal.returns-in-Append-clause-headed
+returns-in-Append-clause-headed g c = λ told p apart header headed.
+    let f : g.row.D.Denot → DiskSeen = λ disk. seen_as (g.D.Disk.size disk) (g.D.Disk.stands disk) (g.D.Disk.faults disk) in
+    let item : c.index_mut-in-Append.result.now ≡ log_at c.args.logs.now.items c.from-place.result = grind (arith, common_steps) in
+    let low : c.from-place.result < length c.args.disks.now = grind (arith, common_steps) in
+    let low_logs : c.from-place.result < length c.args.logs.now.items = grind (arith, common_steps) in
+    heads_at header c.args.watch.now c.do_usual.new.watch c.args.logs.now.items c.args.disks.now f c.from-place.result c.index_mut-in-Append.result.now c.do_usual.new.slot c.index-disks-place-in-Append.result c.do_usual.new.disk p c.do_usual.ensures.ticks (since_of f c.args.disks.now (g.met.D.Disk.since told) p) item low_logs low
+    (λ e one. c.do_usual.ensures.headed told header one) headed

@@ -5,6 +5,8 @@ use Rattle.hs_settled.proofs.counts.each_core_of_a_run_counts_right.Goals as goa
 use Rattle.hs_events.specs.Course.{steps}
 use Rattle.hs_events.specs.Found.{first_core}
 use Rattle.hs_events.specs.Whole.{open_whole}
+use Rattle.hs_standing.proofs.AlongWalkLemmas.{come_front}
+use Rattle.hs_standing.specs.Legal.{MayStand}
 use Rattle.hs_standing.specs.Standing.{judging_of}
 use Rattle.std.specs.Prelude.{take}
 
@@ -29,6 +31,17 @@ returns-clause-events c = λ start w events run may n.
     let running : Running = record { opens = c.a_run_goes_on.ensures.opens; goes_on = c.a_run_goes_on.ensures.goes_on } in
     let its : Stands start (steps w.core (take n events)) = front_stands c.each_event_is_told.ensures.event running start events w run may n in
     core_right laws (judging_of start) start.entry (steps w.core (take n events)) its.0 its.1
+
+pub returns-clause-copies : goal.returns-clause-copies
+returns-clause-copies c = λ by start core events cs names valid clean told may stands n.
+    let laws : CountLaws = record {
+      counts = c.counts_of_catalogues_are_right.ensures.counts;
+      none = c.no_reached_block_is_a_wrong_zero.ensures.none;
+      found = c.each_unreached_block_is_found.ensures.found;
+      counted = c.histories_are_counted.ensures.counted;
+    } in
+    let its = c.each_event_is_told.ensures.events by start core (take n events) cs names valid clean told (come_front (MayStand by start) n events core may) stands in
+    core_right laws by start (steps core (take n events)) its.0 its.1
 
 pub returns-clause-run : goal.returns-clause-run
 returns-clause-run c = λ start found events opens may n.

@@ -8,7 +8,7 @@ pub returns-clause-opened : goal.returns-clause-opened
 returns-clause-opened c = λ cs shape limits found moment. written_new cs shape limits found moment
 
 pub returns-clause-views : goal.returns-clause-views
-returns-clause-views c = λ shard core cs none. written_opens shard core cs none
+returns-clause-views c = λ shard core cs its. written_opens shard core cs its
 
 pub returns-clause-beside : goal.returns-clause-beside
 returns-clause-beside c = λ cs before after same its. written_beside cs before after same its

@@ -12,7 +12,7 @@ returns-in-Ok g c =
         going = c.in-Ok.ensures.going;
         began = c.ask.ensures.began;
         judged = judged_where old new c.args.op c.in-Ok.told c.ask.ensures.began c.known.ensures c.requires.named.1 h;
-        may = h.may;
+        entry = h;
       };
       err = tt;
     }

@@ -61,8 +61,9 @@ returns-in_err-close_run-2-clause-err g c =
     let count : c.len-2.result ≡ length c.args.upper.now.items = omega arith in
     let is : (c.args.bytes - c.len-2.result * 4194304) ≡ c.args.bytes - length c.args.upper.now.items * 4194304 = ap (λ z. c.args.bytes - z * 4194304) count in
     let more : length c.args.upper.now.items ≡ 0 → length c.args.lower.now.items ≡ 1 → ⊥ = elim c.else-is_empty.branch [ else-is_empty-via-then-is_empty+else-len-eq1 w ↦ λ a b. w.if-len-eq1.false (omega (arith, w.len.ensures, b)) | else-is_empty-via-else-is_empty w ↦ λ a b. not_zero (vec_len c.args.upper.now) (sym c.is_empty.ensures ∙ w.if-is_empty.false) (omega (arith, a)) ] in
+    let several : length c.close_run.new.above.items ≡ 1 → ⊥ = λ e. c.if-len-eq1-2.false (omega (arith, e)) in
     let p = err_from_is_err_and c.from_residual-in_err-close_run-2.result c.from_residual-in_err-close_run-2.ensures.1 in
-    rw (p.1, p.2) (second_stops (g.A.Addresser.name c.args.naming.now) c.args.session.now (g.B.Asker.shows c.args.asker.now) c.args.upper.now.items c.args.lower.now.items c.args.bytes c.requires.whole more (c.args.bytes - c.len-2.result * 4194304) is (g.B.Asker.shows c.close_run.new.asker) c.close_run.new.above.items c.in_ok-close_run.ensures.ok c.in_ok-close_run.ensures.one c.new-highest.result.items c.new-highest.ensures.items (g.B.Asker.shows c.close_run-2.new.asker) c.in_err-close_run-2.field-0.0 c.in_err-close_run-2.ensures.err)
+    rw (p.1, p.2) (second_stops (g.A.Addresser.name c.args.naming.now) c.args.session.now (g.B.Asker.shows c.args.asker.now) c.args.upper.now.items c.args.lower.now.items c.args.bytes c.requires.whole more (c.args.bytes - c.len-2.result * 4194304) is (g.B.Asker.shows c.close_run.new.asker) c.close_run.new.above.items c.in_ok-close_run.ensures.ok c.in_ok-close_run.ensures.one c.new-highest.result.items c.new-highest.ensures.items several (g.B.Asker.shows c.close_run-2.new.asker) c.in_err-close_run-2.field-0.0 c.in_err-close_run-2.ensures.err)
 
 pub returns-clause-ok : goal.returns-clause-ok
 returns-clause-ok g c =

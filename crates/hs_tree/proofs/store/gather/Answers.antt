@@ -1,13 +1,13 @@
 use Rattle.std.proofs.Common.{◌+◌, arith}
 use Rattle.std.proofs.lemmas.Result.{err_from_is_err_and}
-use Rattle.hs_tree.proofs.GatherLemmas.{begun_at, goes_on, so_under_way, stops_full, stops_here, take_quiet, taking_stops, too_long}
+use Rattle.hs_tree.proofs.GatherLemmas.{begun_at, goes_on, halts_so_far, so_under_way, stops_full, stops_here, take_quiet, taking_stops, too_long}
 use Rattle.hs_tree.specs.declared.fault.TreeFault.TheVariants as fault
 use Rattle.hs_tree.proofs.store.gather.Goals as goal
 
 pub returns-in_err-taken-clause-err : goal.returns-in_err-taken-clause-err
 returns-in_err-taken-clause-err g c =
     let p = err_from_is_err_and c.from_residual.result c.from_residual.ensures.1 in
-    rw (p.1, p.2) (λ key start t. let q = c.loop-bytes.invariant.so_far start t in c.in_err-taken.ensures.err key start q.0 q.1 q.2)
+    rw (p.1, p.2) (λ key start t. let q = c.loop-bytes.invariant.so_far start t in halts_so_far (g.A.Addresser.name c.args.naming.now) c.args.session.now start key (g.B.Asker.shows c.loop-bytes.asker) (g.B.Asker.shows c.take_next.new.asker) c.loop-bytes.upper.items c.loop-bytes.lower.items c.loop-bytes.bytes (g.S.Source.left c.args.source.now) (g.S.Source.left c.loop-bytes.source) (g.S.Source.left c.take_next.new.source) c.in_err-taken.field-0.0 q (c.in_err-taken.ensures.err key start q.0 q.1 q.2))
 
 pub returns-then-taken-clause-ok : goal.returns-then-taken-clause-ok
 returns-then-taken-clause-ok g c = λ start t. let q = c.loop-bytes.invariant.so_far start t in stops_here (g.A.Addresser.name c.args.naming.now) c.args.session.now start (g.B.Asker.shows c.loop-bytes.asker) (g.B.Asker.shows c.take_next.new.asker) c.loop-bytes.upper.items c.loop-bytes.lower.items c.take_next.new.upper.items c.take_next.new.lower.items c.loop-bytes.bytes c.in_ok-taken.taken (g.S.Source.left c.args.source.now) (g.S.Source.left c.loop-bytes.source) (g.S.Source.left c.take_next.new.source) q c.loop-bytes-test.true (c.in_ok-taken.ensures.ok start q.0 q.1 q.2) c.if-taken.true
@@ -28,7 +28,7 @@ loop-bytes-preserved g c =
 pub returns-in_err-is_at_end-clause-err : goal.returns-in_err-is_at_end-clause-err
 returns-in_err-is_at_end-clause-err g c =
     let p = err_from_is_err_and c.from_residual-in_err-is_at_end.result c.from_residual-in_err-is_at_end.ensures.1 in
-    rw (p.1, p.2) (λ key start t. let q = c.loop-bytes.invariant.so_far start t in taking_stops (g.A.Addresser.name c.args.naming.now) c.args.session.now start (g.B.Asker.shows c.loop-bytes.asker) c.loop-bytes.upper.items c.loop-bytes.lower.items q.0 key c.in_err-is_at_end.field-0.0 (take_quiet _ _ c.in_err-is_at_end.field-0.0 c.in_err-is_at_end.ensures.fault) q.1)
+    rw (p.1, p.2) (λ key start t. let q = c.loop-bytes.invariant.so_far start t in taking_stops (g.A.Addresser.name c.args.naming.now) c.args.session.now start key (g.B.Asker.shows c.loop-bytes.asker) c.loop-bytes.upper.items c.loop-bytes.lower.items c.loop-bytes.bytes (g.S.Source.left c.args.source.now) (g.S.Source.left c.loop-bytes.source) (g.S.Source.left c.is_at_end.new.source) c.in_err-is_at_end.field-0.0 (take_quiet _ _ c.in_err-is_at_end.field-0.0 c.in_err-is_at_end.ensures.fault) c.is_at_end.ensures.gone q)
 
 pub returns-then-branch-clause-ok : goal.returns-then-branch-clause-ok
 returns-then-branch-clause-ok g c = λ start t. let q = c.loop-bytes.invariant.so_far start t in let e = c.in_ok-is_at_end.ensures.ended c.if-branch.true in stops_full (g.A.Addresser.name c.args.naming.now) c.args.session.now start (g.B.Asker.shows c.loop-bytes.asker) c.loop-bytes.upper.items c.loop-bytes.lower.items c.loop-bytes.bytes (g.S.Source.left c.args.source.now) (g.S.Source.left c.loop-bytes.source) q c.loop-bytes-test.false (g.S.Source.left c.is_at_end.new.source) e.0 e.1
@@ -40,4 +40,4 @@ returns-else-branch-clause-cause g c =
     too_long (g.A.Addresser.name c.args.naming.now) c.args.session.now first (g.B.Asker.shows c.loop-bytes.asker) c.loop-bytes.upper.items c.loop-bytes.lower.items c.loop-bytes.bytes (g.S.Source.left c.args.source.now) (g.S.Source.left c.loop-bytes.source) q c.loop-bytes-test.false (c.in_ok-is_at_end.ensures.more c.if-branch.false)
 
 pub returns-else-branch-clause-err : goal.returns-else-branch-clause-err
-returns-else-branch-clause-err g c = λ key start t. let q = c.loop-bytes.invariant.so_far start t in taking_stops (g.A.Addresser.name c.args.naming.now) c.args.session.now start (g.B.Asker.shows c.loop-bytes.asker) c.loop-bytes.upper.items c.loop-bytes.lower.items q.0 key fault.InputFull tt q.1
+returns-else-branch-clause-err g c = λ key start t. let q = c.loop-bytes.invariant.so_far start t in taking_stops (g.A.Addresser.name c.args.naming.now) c.args.session.now start key (g.B.Asker.shows c.loop-bytes.asker) c.loop-bytes.upper.items c.loop-bytes.lower.items c.loop-bytes.bytes (g.S.Source.left c.args.source.now) (g.S.Source.left c.loop-bytes.source) (g.S.Source.left c.is_at_end.new.source) fault.InputFull tt c.is_at_end.ensures.gone q

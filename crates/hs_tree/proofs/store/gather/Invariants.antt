@@ -10,7 +10,7 @@ invariant-loop-bytes g l = record {
   later : g.S.Source.faults l.fn.source ≤ g.S.Source.faults l.source;
   fits : l.bytes ≤ 67108864;
   under : IsUnderWay (g.A.Addresser.name l.naming) l.session (g.B.Asker.shows l.asker) l.upper.items l.lower.items l.bytes;
-  so_far : (start : Shown) → IsTaking (g.A.Addresser.name l.naming) l.session start (g.B.Asker.shows l.fn.asker) l.fn.upper.items l.fn.lower.items []
+  so_far : (start : Shown g.B.Asker.tells) → IsTaking (g.A.Addresser.name l.naming) l.session start (g.B.Asker.shows l.fn.asker) l.fn.upper.items l.fn.lower.items []
       → SoFar (g.A.Addresser.name l.naming) l.session start (g.B.Asker.shows l.asker) l.upper.items l.lower.items l.bytes (g.S.Source.left l.fn.source) (g.S.Source.left l.source);
 }
 

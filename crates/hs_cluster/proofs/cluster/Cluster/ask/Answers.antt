@@ -38,3 +38,6 @@ returns-in_err-op-clause-runs g c = λ disks.
     (sym (p.1 ∙ ap (λ (x : ClusterFault). Err x) p.2))
     (runs_none name c.args.line (command.Client c.args.op) now now old old (Shows ⊤ (record { before = now; now = now; old = old; new = old; disks = disks; left = disks }) (Err NoMemory)) (λ h. h) (omega arith)
     (nothing_done old old refl refl refl c.requires.going) (none_shows now old old disks))
+
+pub returns-clause-joins : goal.returns-clause-joins
+returns-clause-joins g c = λ p apart. c.step.ensures.joins p refl apart

@@ -1,4 +1,4 @@
-use Rattle.std.proofs.Common.{◌≡◌, ◌∙◌, Some, ap, refl, subst, sym}
+use Rattle.std.proofs.Common.{◌≡◌, ◌∙◌, Some, ap, false, refl, subst, sym}
 use Rattle.std.proofs.lemmas.Result.{err_from_is_err_and}
 use Rattle.std.specs.Prelude.{Err, Ok, ⊤}
 use Rattle.hs_cluster.proofs.LineLemmas.{runs_quiet}
@@ -9,6 +9,9 @@ use Rattle.hs_cluster.specs.Disks.{log_at}
 use Rattle.hs_cluster.specs.Kept.{Shows}
 use Rattle.hs_core_words.specs.declared.event.Event.{Event}
 use Rattle.hs_core_words.specs.declared.event.Event.TheVariants as event
+use Rattle.hs_core_words.specs.Looking.{status_of}
+use Rattle.hs_core_words.specs.State.{Core}
+use Rattle.hs_members.specs.Members.{is_joining}
 use Rattle.hs_model.specs.declared.command.Command.TheVariants as command
 use Rattle.hs_cluster.proofs.cluster.Cluster.fail.Goals as goal
 
@@ -35,3 +38,6 @@ returns-clause-runs c = λ name disks.
     let does : Does (done_of (Ok tt) (e, now)) old new (Ok tt) = does_after (done_of (Ok tt) (e, now)) old mid new (Ok tt) c.put_out.ensures.core c.put_out.ensures.course c.in_ok-step.ensures.does in
     runs_quiet name c.args.line (command.Fail c.args.peer) (command.Fail c.args.peer) now old new disks (Ok tt) e refl (λ h. h) refl c.requires.going does
     (λ p keeping at. subst (λ l. log_at l p ≡ Some keeping) c.step.ensures.logs (c.put_out.ensures.logs p keeping at))
+
+pub returns-clause-joins : goal.returns-clause-joins
+returns-clause-joins c = λ p apart. subst (λ (core : Core). is_joining (status_of p core) ≡ false) (sym c.put_out.ensures.core) (c.in_ok-step.ensures.joins p refl apart)

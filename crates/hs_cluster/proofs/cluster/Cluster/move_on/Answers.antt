@@ -1,5 +1,8 @@
 use Rattle.std.proofs.Common.{◌∙◌, ◌*◌, [], ap, arith, map, refl}
 use Rattle.std.specs.List.{range_with_len}
+use Rattle.hs_cluster.proofs.DiskLemmas.{since_of}
+use Rattle.hs_cluster.proofs.GrowingLemmas.{goes_same}
+use Rattle.hs_cluster.proofs.HeadLemmas.{heads_stay}
 use Rattle.hs_cluster.proofs.ShowLemmas.{any_shows, none_shows}
 use Rattle.hs_cluster.proofs.WalkLemmas.{nothing_due, raised_is}
 use Rattle.hs_cluster.specs.declared.fault.ClusterFault.TheVariants.{NoMemory}
@@ -28,3 +31,13 @@ returns-in_default-clause-does g c =
     let now = c.args.watch.now in
     nothing_due c.args.line c.args.due now now old old _ c.requires.going (omega arith) refl refl
     (any_shows g.D.Disk.tells (record { before = now; now = now; old = old; new = old; disks = map f c.args.disks.now; left = map f c.args.disks.now }) (Err NoMemory) [] (none_shows now old old (map f c.args.disks.now)))
+
+pub returns-in_default-clause-goes_on : goal.returns-in_default-clause-goes_on
+returns-in_default-clause-goes_on g c = λ told p apart.
+    let f : g.row.D.Denot → DiskSeen = λ disk. seen_as (g.D.Disk.size disk) (g.D.Disk.stands disk) (g.D.Disk.faults disk) in
+    goes_same c.args.self.now.logs (map f c.args.disks.now) p
+
+pub returns-in_default-clause-headed : goal.returns-in_default-clause-headed
+returns-in_default-clause-headed g c = λ told p apart header headed.
+    let f : g.row.D.Denot → DiskSeen = λ disk. seen_as (g.D.Disk.size disk) (g.D.Disk.stands disk) (g.D.Disk.faults disk) in
+    heads_stay header c.args.watch.now c.args.self.now.logs c.args.self.now.logs (map f c.args.disks.now) p (since_of f c.args.disks.now (g.met.D.Disk.since told) p) (λ keeping at. at) headed

@@ -1,4 +1,4 @@
-use Rattle.std.proofs.Common.{◌≡◌, Some, ap, arith, map, subst, true}
+use Rattle.std.proofs.Common.{◌≡◌, Some, ap, arith, false, map, refl, subst, sym, true}
 use Rattle.std.specs.Prelude.{IsSome, Ok, Option}
 use Rattle.hs_cluster.proofs.DiskLemmas.{since_of}
 use Rattle.hs_cluster.proofs.ShowLemmas.{does_same, job_cut, job_shows}
@@ -7,18 +7,22 @@ use Rattle.hs_cluster.specs.Calls.{Does, done_of}
 use Rattle.hs_cluster.specs.declared.fault.ClusterFault.{ClusterFault}
 use Rattle.hs_cluster.specs.Counts.{HasAllPaid, HasPaid}
 use Rattle.hs_cluster.specs.Disks.{DiskSeen, log_at, seen_as, stands_of}
+use Rattle.hs_cluster.specs.Growing.{GoesOn}
+use Rattle.hs_cluster.specs.Headed.{IsHeadedAt, StaysHeadedAt}
 use Rattle.hs_cluster.specs.Jobs.{HasStored, ReadsOn, StandsBeside, WorksAlone, is_own}
 use Rattle.hs_cluster.specs.Running.{Running}
 use Rattle.hs_core_words.specs.declared.event.Event.{Event}
 use Rattle.hs_core_words.specs.declared.event.Event.TheVariants as event
-use Rattle.hs_core_words.specs.Looking.{catalogue_of, first_job, home}
+use Rattle.hs_core_words.specs.Looking.{catalogue_of, first_job, home, status_of}
 use Rattle.hs_desk.specs.declared.job.Job.{Job}
 use Rattle.hs_entry.specs.declared.entry.Entry.{Entry}
 use Rattle.hs_events.specs.declared.due.Due.TheVariants.{Reporting}
 use Rattle.hs_events.specs.Due.{is_answer}
 use Rattle.hs_fold.specs.Shards.Setting.{Numbered}
+use Rattle.hs_members.specs.Members.{is_joining}
 use Rattle.hs_peerlog.specs.Lists.{IsKept, Keeping}
 use Rattle.hs_ports.specs.Moments.{disk_at}
+use Rattle.hs_side.specs.declared.header.Header.{Header}
 use Rattle.hs_cluster.proofs.cluster.Cluster.report.Goals as goal
 
 pub returns-in_default-clause-does : goal.returns-in_default-clause-does
@@ -84,3 +88,30 @@ pub returns-clause-beside : goal.returns-clause-beside
 returns-clause-beside g c =
     let f : g.row.D.Denot → DiskSeen = λ disk. seen_as (g.D.Disk.size disk) (g.D.Disk.stands disk) (g.D.Disk.faults disk) in
     subst (λ (r : Running). StandsBeside g.D.Disk.tells c.args.peer (first_job c.args.peer r.core) (map f c.args.disks.now) (map f c.do_job-done.new.disks)) c.self.view_is c.do_job-done.ensures.beside
+
+pub returns-in_default-clause-goes_on : goal.returns-in_default-clause-goes_on
+returns-in_default-clause-goes_on g c = λ told p apart.
+    let f : g.row.D.Denot → DiskSeen = λ disk. seen_as (g.D.Disk.size disk) (g.D.Disk.stands disk) (g.D.Disk.faults disk) in
+    subst (λ (r : Running). is_joining (status_of p r.core) ≡ false → GoesOn r.logs (map f c.args.disks.now) c.do_job-done.new.logs.items (map f c.do_job-done.new.disks) p) c.self.view_is (c.do_job-done.ensures.goes_on told p) apart
+
+pub returns-clause-goes_on : goal.returns-clause-goes_on
+returns-clause-goes_on g c = λ told p apart.
+    let f : g.row.D.Denot → DiskSeen = λ disk. seen_as (g.D.Disk.size disk) (g.D.Disk.stands disk) (g.D.Disk.faults disk) in
+    subst (λ l. GoesOn c.args.self.now.logs (map f c.args.disks.now) l (map f c.do_job-done.new.disks) p) (sym c.step.ensures.logs)
+    (subst (λ (r : Running). is_joining (status_of p r.core) ≡ false → GoesOn r.logs (map f c.args.disks.now) c.do_job-done.new.logs.items (map f c.do_job-done.new.disks) p) c.self.view_is (c.do_job-done.ensures.goes_on told p) apart)
+
+pub returns-clause-joins : goal.returns-clause-joins
+returns-clause-joins g c = λ p apart. c.step.ensures.joins p refl (subst (λ (r : Running). is_joining (status_of p r.core) ≡ false) (sym c.self.view_is) apart)
+
+pub returns-in_default-clause-headed : goal.returns-in_default-clause-headed
+returns-in_default-clause-headed g c = λ told p apart header headed.
+    let f : g.row.D.Denot → DiskSeen = λ disk. seen_as (g.D.Disk.size disk) (g.D.Disk.stands disk) (g.D.Disk.faults disk) in
+    subst (λ (r : Running). is_joining (status_of p r.core) ≡ false → (header : Header) → IsHeadedAt header c.args.watch.now r.logs (map f c.args.disks.now) p
+    → StaysHeadedAt header c.args.watch.now c.do_job-done.new.watch (map f c.args.disks.now) c.do_job-done.new.logs.items (map f c.do_job-done.new.disks) p) c.self.view_is (c.do_job-done.ensures.headed told p) apart header headed
+
+pub returns-clause-headed : goal.returns-clause-headed
+returns-clause-headed g c = λ told p apart header headed.
+    let f : g.row.D.Denot → DiskSeen = λ disk. seen_as (g.D.Disk.size disk) (g.D.Disk.stands disk) (g.D.Disk.faults disk) in
+    subst (λ l. StaysHeadedAt header c.args.watch.now c.do_job-done.new.watch (map f c.args.disks.now) l (map f c.do_job-done.new.disks) p) (sym c.step.ensures.logs)
+    (subst (λ (r : Running). is_joining (status_of p r.core) ≡ false → (header : Header) → IsHeadedAt header c.args.watch.now r.logs (map f c.args.disks.now) p
+    → StaysHeadedAt header c.args.watch.now c.do_job-done.new.watch (map f c.args.disks.now) c.do_job-done.new.logs.items (map f c.do_job-done.new.disks) p) c.self.view_is (c.do_job-done.ensures.headed told p) apart header headed)

@@ -1,6 +1,9 @@
 use Rattle.std.proofs.Common.{◌≡◌, Some, map, refl, subst, sym}
-use Rattle.hs_cluster.proofs.DiskLemmas.{always_ok, ready_fewer}
+use Rattle.hs_cluster.proofs.DiskLemmas.{always_ok, ready_fewer, since_of}
 use Rattle.hs_cluster.proofs.LineLemmas.{runs_any, runs_quiet, runs_settle}
+use Rattle.hs_cluster.proofs.GrowingLemmas.{goes_as, goes_fewer, goes_same}
+use Rattle.hs_cluster.proofs.HeadLemmas.{heads_stay}
+use Rattle.hs_cluster.proofs.JoiningLemmas.{starts_another}
 use Rattle.std.specs.Prelude.{⊤}
 use Rattle.hs_cluster.specs.Calls.{Does, RunsLine, done_of}
 use Rattle.hs_cluster.specs.Disks.{DiskSeen, log_at, seen_as}
@@ -98,3 +101,108 @@ returns-in-Fail-clause-runs g c = λ going served.
     (Shows ⊤ (record { before = c.args.watch.now; now = c.args.watch.now; old = c.args.self.now; new = c.fail.new.self; disks = map f c.args.disks.now; left = map f c.args.disks.now }) c.fail.result)) (sym c.in-Fail.is)
     (subst (λ k. RunsLine name c.args.line (command.Fail c.in-Fail.peer) k k c.args.self.now c.fail.new.self c.fail.result
     (Shows ⊤ (record { before = k; now = k; old = c.args.self.now; new = c.fail.new.self; disks = map f c.args.disks.now; left = map f c.args.disks.now }) c.fail.result)) c.now-moment.ensures.value (c.fail.ensures.runs name (map f c.args.disks.now))))
+
+pub returns-in-Client-clause-goes_on : goal.returns-in-Client-clause-goes_on
+returns-in-Client-clause-goes_on g c = λ told p apart.
+    let f : g.row.D.Denot → DiskSeen = λ disk. seen_as (g.D.Disk.size disk) (g.D.Disk.stands disk) (g.D.Disk.faults disk) in
+    goes_as c.args.self.now.logs c.ask.new.self.logs (map f c.args.disks.now) p c.ask.ensures.logs
+
+pub returns-in-Nudge-clause-goes_on : goal.returns-in-Nudge-clause-goes_on
+returns-in-Nudge-clause-goes_on g c = λ told p apart.
+    let f : g.row.D.Denot → DiskSeen = λ disk. seen_as (g.D.Disk.size disk) (g.D.Disk.stands disk) (g.D.Disk.faults disk) in
+    goes_as c.args.self.now.logs c.step.new.self.logs (map f c.args.disks.now) p c.step.ensures.logs
+
+pub returns-in-Deliver-clause-goes_on : goal.returns-in-Deliver-clause-goes_on
+returns-in-Deliver-clause-goes_on g c = λ told p apart.
+    let f : g.row.D.Denot → DiskSeen = λ disk. seen_as (g.D.Disk.size disk) (g.D.Disk.stands disk) (g.D.Disk.faults disk) in
+    goes_as c.args.self.now.logs c.step-in-Deliver.new.self.logs (map f c.args.disks.now) p c.step-in-Deliver.ensures.logs
+
+pub returns-in-Lose-clause-goes_on : goal.returns-in-Lose-clause-goes_on
+returns-in-Lose-clause-goes_on g c = λ told p apart.
+    let f : g.row.D.Denot → DiskSeen = λ disk. seen_as (g.D.Disk.size disk) (g.D.Disk.stands disk) (g.D.Disk.faults disk) in
+    goes_as c.args.self.now.logs c.step-in-Lose.new.self.logs (map f c.args.disks.now) p c.step-in-Lose.ensures.logs
+
+pub returns-in-Repeat-clause-goes_on : goal.returns-in-Repeat-clause-goes_on
+returns-in-Repeat-clause-goes_on g c = λ told p apart.
+    let f : g.row.D.Denot → DiskSeen = λ disk. seen_as (g.D.Disk.size disk) (g.D.Disk.stands disk) (g.D.Disk.faults disk) in
+    goes_as c.args.self.now.logs c.step-in-Repeat.new.self.logs (map f c.args.disks.now) p c.step-in-Repeat.ensures.logs
+
+pub returns-in-Start-clause-goes_on : goal.returns-in-Start-clause-goes_on
+returns-in-Start-clause-goes_on g c = λ told p apart.
+    let f : g.row.D.Denot → DiskSeen = λ disk. seen_as (g.D.Disk.size disk) (g.D.Disk.stands disk) (g.D.Disk.faults disk) in
+    goes_as c.args.self.now.logs c.step-in-Start.new.self.logs (map f c.args.disks.now) p c.step-in-Start.ensures.logs
+
+pub returns-in-Fail-clause-goes_on : goal.returns-in-Fail-clause-goes_on
+returns-in-Fail-clause-goes_on g c = λ told p apart.
+    let f : g.row.D.Denot → DiskSeen = λ disk. seen_as (g.D.Disk.size disk) (g.D.Disk.stands disk) (g.D.Disk.faults disk) in
+    goes_fewer c.args.self.now.logs c.fail.new.self.logs (map f c.args.disks.now) p c.fail.ensures.logs
+
+pub returns-in-Reclaim-clause-goes_on : goal.returns-in-Reclaim-clause-goes_on
+returns-in-Reclaim-clause-goes_on g c = λ told p apart.
+    let f : g.row.D.Denot → DiskSeen = λ disk. seen_as (g.D.Disk.size disk) (g.D.Disk.stands disk) (g.D.Disk.faults disk) in
+    goes_same c.args.self.now.logs (map f c.args.disks.now) p
+
+pub returns-in-Some-clause-goes_on : goal.returns-in-Some-clause-goes_on
+returns-in-Some-clause-goes_on g c = λ told p apart.
+    let f : g.row.D.Denot → DiskSeen = λ disk. seen_as (g.D.Disk.size disk) (g.D.Disk.stands disk) (g.D.Disk.faults disk) in
+    goes_same c.args.self.now.logs (map f c.args.disks.now) p
+
+pub returns-in-Start-clause-joins : goal.returns-in-Start-clause-joins
+returns-in-Start-clause-joins g c = λ p another apart. c.step-in-Start.ensures.joins p (starts_another c.args.command c.in-Start.peer p c.in-Start.is another) apart
+
+pub returns-in-Nudge-clause-joins : goal.returns-in-Nudge-clause-joins
+returns-in-Nudge-clause-joins g c = λ p another apart. c.step.ensures.joins p refl apart
+
+pub returns-in-Deliver-clause-joins : goal.returns-in-Deliver-clause-joins
+returns-in-Deliver-clause-joins g c = λ p another apart. c.step-in-Deliver.ensures.joins p refl apart
+
+pub returns-in-Lose-clause-joins : goal.returns-in-Lose-clause-joins
+returns-in-Lose-clause-joins g c = λ p another apart. c.step-in-Lose.ensures.joins p refl apart
+
+pub returns-in-Repeat-clause-joins : goal.returns-in-Repeat-clause-joins
+returns-in-Repeat-clause-joins g c = λ p another apart. c.step-in-Repeat.ensures.joins p refl apart
+
+pub returns-in-Client-clause-headed : goal.returns-in-Client-clause-headed
+returns-in-Client-clause-headed g c = λ told p apart header headed.
+    let f : g.row.D.Denot → DiskSeen = λ disk. seen_as (g.D.Disk.size disk) (g.D.Disk.stands disk) (g.D.Disk.faults disk) in
+    heads_stay header c.args.watch.now c.args.self.now.logs c.ask.new.self.logs (map f c.args.disks.now) p (since_of f c.args.disks.now (g.met.D.Disk.since told) p) (λ keeping at. subst (λ l. log_at l p ≡ Some keeping) c.ask.ensures.logs at) headed
+
+pub returns-in-Nudge-clause-headed : goal.returns-in-Nudge-clause-headed
+returns-in-Nudge-clause-headed g c = λ told p apart header headed.
+    let f : g.row.D.Denot → DiskSeen = λ disk. seen_as (g.D.Disk.size disk) (g.D.Disk.stands disk) (g.D.Disk.faults disk) in
+    heads_stay header c.args.watch.now c.args.self.now.logs c.step.new.self.logs (map f c.args.disks.now) p (since_of f c.args.disks.now (g.met.D.Disk.since told) p) (λ keeping at. subst (λ l. log_at l p ≡ Some keeping) c.step.ensures.logs at) headed
+
+pub returns-in-Deliver-clause-headed : goal.returns-in-Deliver-clause-headed
+returns-in-Deliver-clause-headed g c = λ told p apart header headed.
+    let f : g.row.D.Denot → DiskSeen = λ disk. seen_as (g.D.Disk.size disk) (g.D.Disk.stands disk) (g.D.Disk.faults disk) in
+    heads_stay header c.args.watch.now c.args.self.now.logs c.step-in-Deliver.new.self.logs (map f c.args.disks.now) p (since_of f c.args.disks.now (g.met.D.Disk.since told) p) (λ keeping at. subst (λ l. log_at l p ≡ Some keeping) c.step-in-Deliver.ensures.logs at) headed
+
+pub returns-in-Lose-clause-headed : goal.returns-in-Lose-clause-headed
+returns-in-Lose-clause-headed g c = λ told p apart header headed.
+    let f : g.row.D.Denot → DiskSeen = λ disk. seen_as (g.D.Disk.size disk) (g.D.Disk.stands disk) (g.D.Disk.faults disk) in
+    heads_stay header c.args.watch.now c.args.self.now.logs c.step-in-Lose.new.self.logs (map f c.args.disks.now) p (since_of f c.args.disks.now (g.met.D.Disk.since told) p) (λ keeping at. subst (λ l. log_at l p ≡ Some keeping) c.step-in-Lose.ensures.logs at) headed
+
+pub returns-in-Repeat-clause-headed : goal.returns-in-Repeat-clause-headed
+returns-in-Repeat-clause-headed g c = λ told p apart header headed.
+    let f : g.row.D.Denot → DiskSeen = λ disk. seen_as (g.D.Disk.size disk) (g.D.Disk.stands disk) (g.D.Disk.faults disk) in
+    heads_stay header c.args.watch.now c.args.self.now.logs c.step-in-Repeat.new.self.logs (map f c.args.disks.now) p (since_of f c.args.disks.now (g.met.D.Disk.since told) p) (λ keeping at. subst (λ l. log_at l p ≡ Some keeping) c.step-in-Repeat.ensures.logs at) headed
+
+pub returns-in-Start-clause-headed : goal.returns-in-Start-clause-headed
+returns-in-Start-clause-headed g c = λ told p apart header headed.
+    let f : g.row.D.Denot → DiskSeen = λ disk. seen_as (g.D.Disk.size disk) (g.D.Disk.stands disk) (g.D.Disk.faults disk) in
+    heads_stay header c.args.watch.now c.args.self.now.logs c.step-in-Start.new.self.logs (map f c.args.disks.now) p (since_of f c.args.disks.now (g.met.D.Disk.since told) p) (λ keeping at. subst (λ l. log_at l p ≡ Some keeping) c.step-in-Start.ensures.logs at) headed
+
+pub returns-in-Fail-clause-headed : goal.returns-in-Fail-clause-headed
+returns-in-Fail-clause-headed g c = λ told p apart header headed.
+    let f : g.row.D.Denot → DiskSeen = λ disk. seen_as (g.D.Disk.size disk) (g.D.Disk.stands disk) (g.D.Disk.faults disk) in
+    heads_stay header c.args.watch.now c.args.self.now.logs c.fail.new.self.logs (map f c.args.disks.now) p (since_of f c.args.disks.now (g.met.D.Disk.since told) p) (λ keeping at. c.fail.ensures.logs p keeping at) headed
+
+pub returns-in-Reclaim-clause-headed : goal.returns-in-Reclaim-clause-headed
+returns-in-Reclaim-clause-headed g c = λ told p apart header headed.
+    let f : g.row.D.Denot → DiskSeen = λ disk. seen_as (g.D.Disk.size disk) (g.D.Disk.stands disk) (g.D.Disk.faults disk) in
+    heads_stay header c.args.watch.now c.args.self.now.logs c.args.self.now.logs (map f c.args.disks.now) p (since_of f c.args.disks.now (g.met.D.Disk.since told) p) (λ keeping at. at) headed
+
+pub returns-in-Some-clause-headed : goal.returns-in-Some-clause-headed
+returns-in-Some-clause-headed g c = λ told p apart header headed.
+    let f : g.row.D.Denot → DiskSeen = λ disk. seen_as (g.D.Disk.size disk) (g.D.Disk.stands disk) (g.D.Disk.faults disk) in
+    heads_stay header c.args.watch.now c.args.self.now.logs c.args.self.now.logs (map f c.args.disks.now) p (since_of f c.args.disks.now (g.met.D.Disk.since told) p) (λ keeping at. at) headed

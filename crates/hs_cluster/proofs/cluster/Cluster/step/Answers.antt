@@ -1,7 +1,8 @@
-use Rattle.std.proofs.Common.{◌≡◌, ◌∙◌, ap, sym, subst, refl, ◌*◌, ◌++◌, ◌∷◌, [], List, None, map}
+use Rattle.std.proofs.Common.{◌≡◌, ◌∙◌, ap, sym, subst, refl, ◌*◌, ◌++◌, ◌∷◌, [], List, None, false, map}
 use Rattle.std.specs.List.{range_with_len}
 use Rattle.std.specs.Prelude.{Ok, Err}
 use Rattle.hs_cluster.proofs.EventLemmas.{err_ends, event_done, event_refused, ok_goes}
+use Rattle.hs_cluster.proofs.JoiningLemmas.{stays_apart}
 use Rattle.hs_cluster.proofs.RoomLemmas.{room_ended}
 use Rattle.hs_events.proofs.GoingLemmas.{step_goes}
 use Rattle.hs_cluster.specs.Calls.{Does, outcome_by}
@@ -13,7 +14,7 @@ use Rattle.hs_core_words.specs.State.{Core}
 use Rattle.hs_core_words.specs.Step.{step}
 use Rattle.hs_desk.specs.declared.fault.CoreFault.TheVariants as core
 use Rattle.hs_limits.specs.declared.shape.Shape.{Shape}
-use Rattle.hs_members.specs.Members.{is_good_status}
+use Rattle.hs_members.specs.Members.{is_good_status, is_joining}
 use Rattle.hs_model.specs.declared.course.CourseItem.{CourseItem}
 use Rattle.hs_cluster.proofs.cluster.Cluster.step.Goals as goal
 
@@ -57,3 +58,7 @@ returns-in-Err-ShardLost-clause-does c =
     (c.note_event-in-Err-ShardLost.ensures.items old shape goods fronts ∙ ap (λ (xs : List CourseItem). xs ++ items_between c.begun_line-line.result old new c.args.moment) c.in_ok-reserve.ensures.items)
     (ap is_refused (err_ends new (core.ShardLost c.in-Err-ShardLost.shard) steps.outcome)) (ap outcome_by (sym (err_ends new (core.ShardLost c.in-Err-ShardLost.shard) steps.outcome))) refl
     (room_ended new (core.ShardLost c.in-Err-ShardLost.shard) (err_ends new (core.ShardLost c.in-Err-ShardLost.shard) steps.outcome)))
+
+pub returns-in-Ok-clause-joins : goal.returns-in-Ok-clause-joins
+returns-in-Ok-clause-joins c = λ peer none apart.
+    stays_apart peer c.args.event c.args.moment c.self.inside.core c.step.new.self (c.in-Ok.ensures.steps.done refl) none (subst (λ (r : Running). is_joining (status_of peer r.core) ≡ false) (sym c.self.view_is) apart)

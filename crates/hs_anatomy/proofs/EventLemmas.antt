@@ -1,0 +1,345 @@
+-- What an event makes of a core is made of acts.
+use Rattle.std.proofs.Common.{◌≡◌, ◌∙◌, sym, ap, subst, ℕ, zero, suc, ◌+◌, ◌-◌, ◌<◌, ◌==◌, Bool, true, false, cond, List, [], ◌∷◌, Option, Some, None, refl, drop, eqb-true, length, not}
+use Rattle.hs_anatomy.proofs.ClassLemmas.{after_is}
+use Rattle.hs_anatomy.proofs.OnceLemmas.{once_acts}
+use Rattle.hs_anatomy.proofs.ReadyLemmas.{AreReady, PassesIdle, ready_on, ready_where, view_idle, wakes_idle}
+use Rattle.hs_anatomy.proofs.StepLemmas.{committed_low, length_set, message_by, unless_by}
+use Rattle.hs_anatomy.specs.Acts.{Act, Acts, AndThen, Asks, ByCopying, ByDisk, ByEmptying, ByLine, ByNudge, ByRound, Copies, Empties, Enters, Falls, FindsDown, Gets, Goes, Hands, Hears, IsAnswered, IsAside, IsBehind, IsComing, IsFalling, IsFelled, IsNudged, IsUrged, Joins, Loses, NoAct, Opens, Refuses, Repeats, Reports, Resends, Seals, SendsRound, Starts, Takes, TakesEffect, TellsDown, Views, bytes_report, copied_by, emptied_by, fallen, joined, sealed_by, without_job}
+use Rattle.hs_anatomy.specs.Effect.{Class, OfBase, OfEnter, OfLine, OfRound, OfView, class_of, done_by, goes_class, taken, tells_class, told_at_once}
+use Rattle.hs_anatomy.specs.Once.{AreOnce, IsIdle}
+use Rattle.hs_anatomy.specs.Refusing.{refusal_in}
+use Rattle.hs_awaiting.specs.declared.wait.Wait.{Wait}
+use Rattle.hs_awaiting.specs.declared.wait.Wait.TheVariants as wait
+use Rattle.hs_awaiting.specs.declared.waiting.Waiting.{Waiting}
+use Rattle.hs_awaiting.specs.Words.{change_if, change_with, each, times, ◌▸◌}
+use Rattle.hs_core_words.specs.Asking.{deliver, lose, no_peer, not_down, not_up, nudge, nudge_good, send_again, send_rounds}
+use Rattle.hs_core_words.specs.Changing.{change_group, change_pool, note, post, refuse, set_tasks, set_viewed}
+use Rattle.hs_core_words.specs.declared.event.Event.{Event}
+use Rattle.hs_core_words.specs.declared.event.Event.TheVariants as event
+use Rattle.hs_core_words.specs.declared.task.Task.{Task}
+use Rattle.hs_core_words.specs.Delivering.{is_new_round, take_copy}
+use Rattle.hs_core_words.specs.Effects.{commit, commit_next, is_for_view, note_sweep, take_effect, wakes}
+use Rattle.hs_core_words.specs.Entering.{is_enter_due, propose_due}
+use Rattle.hs_core_words.specs.Failing.{commit_rest, go_down}
+use Rattle.hs_core_words.specs.Joining.{is_level_with_lead, join, join_if_level, start}
+use Rattle.hs_core_words.specs.Looking.{catalogue_of, first_task, front_of, group_of, home, lead_of, operation_of, shape_of, shards_of, status_of, tasks_of}
+use Rattle.hs_core_words.specs.Opening.{begin_views, note_down, note_if_down}
+use Rattle.hs_core_words.specs.Operating.{go_on_with, lines_where, propose_entry, resume, resume_where}
+use Rattle.hs_core_words.specs.Pending.{named}
+use Rattle.hs_core_words.specs.Reporting.{is_reading, on_report, take_report, tell_bytes}
+use Rattle.hs_core_words.specs.Seeing.{pointers_for}
+use Rattle.hs_core_words.specs.State.{Core}
+use Rattle.hs_core_words.specs.Step.{do_event, line_of}
+use Rattle.hs_core_words.specs.Views.{begin_view, change_view}
+use Rattle.hs_desk.specs.Answers.{answers, is_read_of}
+use Rattle.hs_desk.specs.declared.done.Done.{Done}
+use Rattle.hs_desk.specs.declared.done.Done.TheVariants as done
+use Rattle.hs_desk.specs.declared.job.Job.{Job}
+use Rattle.hs_desk.specs.declared.job.Job.TheVariants as job
+use Rattle.hs_entry.specs.declared.entry.Entry.{Entry}
+use Rattle.hs_entry.specs.declared.entry.Entry.TheVariants as kind
+use Rattle.hs_journal.specs.declared.entry.Who.TheVariants as who
+use Rattle.hs_members.specs.Members.{all_peers, has_good, is_good_status}
+use Rattle.hs_model.specs.declared.deed.Deed.TheVariants as deed
+use Rattle.hs_model.specs.declared.op.Op.{Op}
+use Rattle.hs_model.specs.declared.reply.Reply.{Reply}
+use Rattle.hs_model.specs.declared.reply.Reply.TheVariants as reply
+use Rattle.hs_ops.specs.Operations.{bytes_step}
+use Rattle.hs_post.specs.declared.message.Message.{Message}
+use Rattle.hs_post.specs.declared.message.Message.TheVariants as message
+use Rattle.hs_post.specs.Pool.{is_full, message_at, without}
+use Rattle.hs_replica.specs.Group.{commit_front, committed, is_peer, on_have, take_committed, takes}
+use Rattle.hs_shard.specs.declared.effect.Effect.{Effect}
+
+-- ---- what a report answers
+
+read_is : (number : ℕ) (j : Job) → is_read_of number j ≡ true → j ≡ job.Read number
+read_is number (job.Read n) e = ap (λ k. job.Read k) (sym (eqb-true number n e))
+read_is number other e = absurd (cc e)
+
+reading_is : (number : ℕ) (x : Wait) → is_reading number x ≡ true → x ≡ wait.Bytes number
+reading_is number (wait.Bytes n) e = ap (λ k. wait.Bytes k) (eqb-true n number e)
+reading_is number other e = absurd (cc e)
+
+-- the first job of a peer is a Read
+first_reads : (p number : ℕ) (c : Core) (task : Task) → first_task p c ≡ Some task → is_read_of number task.job ≡ true → first_task p c ≡ Some (record { job = job.Read number; line = task.line })
+first_reads p number c task first fits = first ∙ ap (λ (j : Job). Some (record { job = j; line = task.line })) (read_is number task.job fits)
+
+-- ---- what a round that took effect leaves
+
+round_long : (shard : ℕ) (entry : Entry) (class : Class) (effect : Effect) (c : Core) → class ≡ OfRound → length (tells_class class shard effect (taken shard entry c)).groups ≡ length c.groups
+round_long shard entry (OfLine line) effect c is = absurd (cc is)
+round_long shard entry (OfEnter line) effect c is = absurd (cc is)
+round_long shard entry (OfView view) effect c is = absurd (cc is)
+round_long shard entry OfBase effect c is = absurd (cc is)
+round_long shard entry OfRound effect c is = swept effect.removed ∙ length_set c.groups shard (take_committed (group_of shard c))
+  where
+    swept : (removed : Option ℕ) → length (change_with removed (note_sweep shard) (taken shard entry c)).groups ≡ length (taken shard entry c).groups
+    swept None = refl
+    swept (Some n) = go _
+      where
+        go : (b : Bool) → length (change_if b (note who.Store deed.Nothing (reply.Done (catalogue_of shard (taken shard entry c)).swept)) (note (who.Shard shard) (deed.Swept shard) (reply.Sweep (catalogue_of shard (taken shard entry c)).swept n) (taken shard entry c))).groups ≡ length (taken shard entry c).groups
+        go true = refl
+        go false = refl
+
+-- what each act keeps, all of them keep
+pub acts_keep : {s : Core} {e : Option Event} (P : Core → Type 0) → ((a b : Core) → Act s e a b → P a → P b) → (b : Core) → Acts s e b → P s → P b
+acts_keep P k b NoAct p = p
+acts_keep P k b (AndThen {a = a} xs x) p = k a b x (acts_keep P k a xs p)
+
+module _ {s : Core} {e : Option Event} where
+  -- ---- how changes are joined
+
+  acts_if : (b : Bool) (f : Core → Core) (c : Core) → Acts s e c → ((x : Core) → Acts s e x → Acts s e (f x)) → Acts s e (change_if b f c)
+  acts_if true f c xs k = k c xs
+  acts_if false f c xs k = xs
+
+  acts_each : {B : Type 0} (ys : List B) (f : B → Core → Core) (c : Core) → Acts s e c → ((y : B) (x : Core) → Acts s e x → Acts s e (f y x)) → Acts s e (each ys f c)
+  acts_each [] f c xs k = xs
+  acts_each (y ∷ ys) f c xs k = acts_each ys f (f y c) (k y c xs) k
+
+  -- ---- a due Enter
+
+  due_acts : (shard : ℕ) (c : Core) → IsUrged s e c shard → Acts s e c → Acts s e (propose_due shard c)
+  due_acts shard c urged xs = go (is_enter_due shard c) refl
+    where
+      go : (b : Bool) → is_enter_due shard c ≡ b → Acts s e (change_if b (propose_entry shard (kind.Enter 0 ((catalogue_of shard c).epoch + 1))) c)
+      go true due = AndThen xs (Enters shard urged due)
+      go false late = xs
+
+  -- ---- a nudge
+
+  round_acts : (shard peer : ℕ) → IsNudged s e shard peer → (c : Core) → Acts s e c → Acts s e (send_rounds shard (propose_due shard c))
+  round_acts shard peer known c xs =
+      AndThen (AndThen (due_acts shard c (ByNudge peer known) xs) (SendsRound 1 shard peer known)) (SendsRound 0 shard peer known)
+
+  nudge_acts : (peer : ℕ) (c : Core) → IsNudged s e (home peer c) peer → Acts s e c → Acts s e (nudge peer c)
+  nudge_acts peer c known xs =
+      AndThen (acts_if (is_peer peer (lead_of (home peer c) c)) (λ core. core ▸ propose_due (home peer c) ▸ send_rounds (home peer c)) c xs (λ x ys. round_acts (home peer c) peer known x ys))
+      (IsAside (Resends (home peer c) peer known))
+
+  -- ---- operations, where the event is no client's line
+
+  module _ (calm : (line : ℕ) (o : Op) → e ≡ Some (event.Line line o) → ⊥) where
+    resume_acts : (line : ℕ) (c : Core) → (AreOnce s.operations → (w : Waiting) → operation_of line c ≡ Some w → IsIdle w.wait) → Acts s e c → Acts s e (resume line c)
+    resume_acts line c idle xs = go (operation_of line c) refl
+      where
+        go : (o : Option Waiting) → operation_of line c ≡ o → Acts s e (resume line c)
+        go None at = rw at xs
+        go (Some w) at = AndThen xs (Goes line w at (λ once. idle once w at))
+
+    lines_act : (lines : List ℕ) (c : Core) → (AreOnce s.operations → AreReady c lines) → Acts s e c → Acts s e (each lines resume c)
+    lines_act [] c ready xs = xs
+    lines_act (line ∷ rest) c ready xs =
+        lines_act rest (resume line c) (λ once. ready_on c line rest (ready once).0 (ready once).2) (resume_acts line c (λ once. (ready once).1) xs)
+
+    where_acts : (shard : ℕ) (test : Waiting → Bool) → PassesIdle test → (c : Core) → Acts s e c → Acts s e (resume_where shard test c)
+    where_acts shard test idle c xs = lines_act (lines_where shard test c) c (λ once. ready_where shard test idle c (once_acts calm xs once)) xs
+
+    -- ---- entries that take effect
+
+    class_acts : (class : Class) (shard : ℕ) (c : Core) → (class ≡ OfRound → IsUrged s e c shard) → Acts s e c → Acts s e (goes_class class shard c)
+    class_acts (OfLine line) shard c urged xs = xs
+    class_acts (OfEnter line) shard c urged xs = xs
+    class_acts (OfView view) shard c urged xs =
+        acts_if (view == (group_of shard c).view) (λ x. resume_where shard is_for_view (set_viewed shard true x)) c xs (λ x ys. where_acts shard is_for_view view_idle (set_viewed shard true x) (AndThen ys (IsAside (Views shard))))
+    class_acts OfRound shard c urged xs = due_acts shard c (urged refl) xs
+    class_acts OfBase shard c urged xs = xs
+
+    effect_acts : (shard number : ℕ) (entry : Entry) (c : Core) → committed (group_of shard c) ≡ Some (number, entry) → Acts s e c → Acts s e (take_effect shard entry c)
+    effect_acts shard number entry c next xs =
+        subst (λ x. Acts s e (resume_where shard (wakes entry (named entry c) x) x)) (sym (after_is shard entry effect (taken shard entry c)))
+        (where_acts shard (wakes entry (named entry c) after) (wakes_idle entry (named entry c) after) after (class_acts (class_of entry) shard told urged (AndThen xs (TakesEffect shard number entry next))))
+      where
+        effect : Effect
+        effect = (done_by shard entry c).effect
+
+        told : Core
+        told = told_at_once shard entry c
+
+        after : Core
+        after = goes_class (class_of entry) shard told
+
+        urged : class_of entry ≡ OfRound → IsUrged s e told shard
+        urged is = ByRound (subst (λ n. shard < n) (sym (round_long shard entry (class_of entry) effect c is)) (committed_low shard (number, entry) c next))
+
+    pub next_acts : (shard : ℕ) (c : Core) → Acts s e c → Acts s e (commit_next shard c)
+    next_acts shard c xs = go (committed (group_of shard c)) refl
+      where
+        go : (o : Option (ℕ × Entry)) → committed (group_of shard c) ≡ o → Acts s e (change_with o (λ (x : ℕ × Entry). take_effect shard x.1) c)
+        go None none = xs
+        go (Some x) next = effect_acts shard x.0 x.1 c next xs
+
+    times_act : (n shard : ℕ) (c : Core) → Acts s e c → Acts s e (times n (commit_next shard) c)
+    times_act zero shard c xs = xs
+    times_act (suc n) shard c xs = times_act n shard (commit_next shard c) (next_acts shard c xs)
+
+    pub commit_acts : (shard : ℕ) (c : Core) → Acts s e c → Acts s e (commit shard c)
+    commit_acts shard c xs = times_act (commit_front (group_of shard c) - front_of shard c) shard c xs
+
+    -- ---- peers
+
+    down_acts : (peer : ℕ) (c : Core) → IsFalling s e c peer → Acts s e c → Acts s e (go_down peer c)
+    down_acts peer c falling xs =
+        acts_if (is_good_status (status_of peer c)) (commit_rest (home peer c)) (fallen peer c) (AndThen xs (Falls peer falling)) (λ x ys.
+        acts_if (has_good (home peer c) x.members) (commit (home peer c)) x ys (λ y zs. commit_acts (home peer c) y zs))
+
+    level_acts : (peer : ℕ) (c : Core) → IsBehind s e c peer → Acts s e c → Acts s e (join_if_level peer c)
+    level_acts peer c behind xs = go (is_level_with_lead peer c) refl
+      where
+        go : (b : Bool) → is_level_with_lead peer c ≡ b → Acts s e (change_if b (join peer) c)
+        go true level = commit_acts (home peer c) (joined peer c) (AndThen xs (Joins peer (record { level = level; behind = behind })))
+        go false low = xs
+
+    -- ---- messages
+
+    message_acts : (number : ℕ) (m : Message) (c : Core) → IsComing s e c number m → Acts s e c → Acts s e (deliver number m c)
+    message_acts number (message.Copy shard to view next entry) c known xs = go (takes to view next (group_of shard c)) refl
+      where
+        gone : Core
+        gone = change_pool (without number) c
+
+        go : (b : Bool) → takes to view next (group_of shard c) ≡ b → Acts s e (change_if b (take_copy shard to next entry) gone)
+        go true fits = AndThen xs (IsAside (Takes number shard to view next entry known fits))
+        go false late = AndThen xs (IsAside (Loses number (message.Copy shard to view next entry) known.at))
+    message_acts number (message.Have shard from to view sealed) c known xs = go (is_good_status (status_of to c)) refl
+      where
+        gone : Core
+        gone = change_pool (without number) c
+
+        go : (b : Bool) → is_good_status (status_of to c) ≡ b → Acts s e (change_if b (λ core. core ▸ change_group shard (on_have from view sealed) ▸ commit shard) gone)
+        go true good = commit_acts shard (change_group shard (on_have from view sealed) gone) (AndThen xs (IsAside (Hears number shard from to view sealed known good)))
+        go false bad = AndThen xs (IsAside (Loses number (message.Have shard from to view sealed) known.at))
+    message_acts number (message.Round from to epoch round total deltas) c known xs = go (is_new_round to from epoch round gone) refl
+      where
+        gone : Core
+        gone = change_pool (without number) c
+
+        go : (b : Bool) → is_new_round to from epoch round gone ≡ b → Acts s e (change_if b (propose_entry to (kind.Got from epoch round total deltas)) gone)
+        go true new = AndThen xs (Gets number from to epoch round total deltas known new)
+        go false old = AndThen xs (IsAside (Loses number (message.Round from to epoch round total deltas) known.at))
+
+    -- ---- reports
+
+    -- what comes first is so of the core as the event has begun
+    at_start : (c : Core) (peer : ℕ) (d : Done) → IsAnswered s e c peer d → IsAnswered s e s peer d
+    at_start c peer d known = subst (λ x. IsAnswered s e x peer d) known.start known
+
+    falling_by : (c : Core) (peer : ℕ) (a : Core) → IsFelled s e peer → c ≡ s → a.members ≡ c.members → a.groups ≡ c.groups → a.catalogues ≡ c.catalogues → IsFalling s e a peer
+    falling_by c peer a why start members lists catalogues = record {
+      why = why;
+      members = members ∙ ap (λ (x : Core). x.members) start;
+      lists = lists ∙ ap (λ (x : Core). x.groups) start;
+      catalogues = catalogues ∙ ap (λ (x : Core). x.catalogues) start;
+    }
+
+    bytes_act : (peer number line : ℕ) (bytes : Option (List ℕ)) (c : Core) → IsAnswered s e c peer (bytes_report number bytes) → first_task peer c ≡ Some (record { job = job.Read number; line = line })
+        → Acts s e c → Acts s e (tell_bytes line number bytes (without_job peer c))
+    bytes_act peer number line bytes c known first xs = go (operation_of line c) refl
+      where
+        x : Core
+        x = without_job peer c
+
+        done : Acts s e x
+        done = AndThen xs (IsAside (Reports peer (bytes_report number bytes) known))
+
+        reading : (w : Waiting) → operation_of line c ≡ Some w → (b : Bool) → is_reading number w.wait ≡ b → Acts s e (change_if b (λ y. go_on_with (λ v o. bytes_step v bytes (pointers_for w.shard w.operation.op y) o) line y) x)
+        reading w at true r = AndThen xs (Hands peer number line bytes w (record { answered = known; first = first; at = at; waits = reading_is number w.wait r }))
+        reading w at false r = done
+
+        go : (o : Option Waiting) → operation_of line c ≡ o → Acts s e (change_with o (λ w. change_if (is_reading number w.wait) (λ y. go_on_with (λ v o. bytes_step v bytes (pointers_for w.shard w.operation.op y) o) line y)) x)
+        go None at = done
+        go (Some w) at = reading w at (is_reading number w.wait) refl
+
+    done_acts : (peer : ℕ) (d : Done) (c : Core) (known : IsAnswered s e c peer d) → Acts s e c → Acts s e (take_report peer known.task.line d (without_job peer c))
+    done_acts peer (done.Stored number) c known xs = AndThen xs (IsAside (Reports peer (done.Stored number) known))
+    done_acts peer (done.Sealed number) c known xs =
+        commit_acts (home peer c) (sealed_by peer number (without_job peer c)) (AndThen xs (IsAside (Seals peer number known)))
+    done_acts peer (done.Bytes number bytes) c known xs =
+        bytes_act peer number known.task.line (Some bytes) c known (first_reads peer number c known.task known.first known.fits) xs
+    done_acts peer (done.Gone number) c known xs =
+        bytes_act peer number known.task.line None c known (first_reads peer number c known.task known.first known.fits) xs
+    done_acts peer done.Emptied c known xs =
+        level_acts peer (emptied_by peer (without_job peer c)) (ByEmptying (at_start c peer done.Emptied known) (ap (λ x. emptied_by peer (without_job peer x)) known.start)) (AndThen xs (IsAside (Empties peer known)))
+    done_acts peer (done.Copied number) c known xs =
+        level_acts peer (copied_by peer number (without_job peer c)) (ByCopying number (at_start c peer (done.Copied number) known) (ap (λ x. copied_by peer number (without_job peer x)) known.start)) (AndThen xs (IsAside (Copies peer number known)))
+    done_acts peer (done.Stepped switched) c known xs = AndThen xs (IsAside (Reports peer (done.Stepped switched) known))
+    done_acts peer (done.Failed disk) c known xs =
+        let x : Core = without_job peer c in
+        let told : Core = note who.Store deed.Nothing (reply.Down disk x.progress.event_line) x in
+        down_acts disk told (falling_by c disk told (ByDisk peer known.reported) known.start refl refl refl) (AndThen (AndThen xs (IsAside (Reports peer (done.Failed disk) known))) (TellsDown peer disk known.reported))
+
+    report_acts : (peer : ℕ) (d : Done) (c : Core) → c ≡ s → e ≡ Some (event.Report peer d) → Acts s e c → Acts s e (on_report peer d c)
+    report_acts peer d c start reported xs = go (first_task peer c) refl
+      where
+        answered : (task : Task) → first_task peer c ≡ Some task → (b : Bool) → answers peer task.job d ≡ b → Acts s e (change_if b (λ x. take_report peer task.line d (set_tasks peer (drop 1 (tasks_of peer x)) x)) c)
+        answered task first true fits = done_acts peer d c (record { start = start; reported = reported; task = task; first = first; fits = fits }) xs
+        answered task first false fits = xs
+
+        go : (o : Option Task) → first_task peer c ≡ o → Acts s e (change_with o (λ task. change_if (answers peer task.job d) (λ x. take_report peer task.line d (set_tasks peer (drop 1 (tasks_of peer x)) x))) c)
+        go None first = xs
+        go (Some task) first = answered task first (answers peer task.job d) refl
+
+-- ---- events
+
+module _ (s : Core) where
+  again_acts : (line number : ℕ) (m : Message) → message_at number s.pool ≡ Some m → Acts s (Some (event.Repeat line number)) (send_again line m s)
+  again_acts line number m at = go (is_full s.pool) refl
+    where
+      go : (b : Bool) → is_full s.pool ≡ b → Acts s (Some (event.Repeat line number)) (cond b (refuse line (reply.PoolFull s.pool.limit) s) (post (m ∷ []) s))
+      go true full = AndThen NoAct (Refuses (event.Repeat line number) (reply.PoolFull s.pool.limit) refl (rw (at, full) refl))
+      go false room = AndThen NoAct (IsAside (Repeats number m at room))
+
+  good_acts : (line peer : ℕ) → Acts s (Some (event.Nudge line peer)) (nudge_good peer s)
+  good_acts line peer = go (is_good_status (status_of peer s)) refl
+    where
+      go : (b : Bool) → is_good_status (status_of peer s) ≡ b → Acts s (Some (event.Nudge line peer)) (change_if b (nudge peer) s)
+      go true good = nudge_acts peer s (record { line = line; asked = refl; good = good; home = refl }) NoAct
+      go false bad = NoAct
+
+  refused : (x : Event) (r : Reply) → refusal_in x s ≡ Some r → Acts s (Some x) (refuse (line_of x) r s)
+  refused x r why = AndThen NoAct (Refuses x r refl why)
+
+  pub does_acts : (x : Event) → Acts s (Some x) (do_event x s)
+  does_acts (event.Line line o) = AndThen NoAct (Asks line o refl refl)
+  does_acts (event.Report peer d) = report_acts (λ line o is. cc is) peer d s refl refl NoAct
+  does_acts (event.Turn line peer) =
+      unless_by line (no_peer peer s ∷ not_up peer s ∷ []) (λ core. core) s (λ c. Acts s (Some (event.Turn line peer)) c) (λ r why. refused (event.Turn line peer) r why) (λ none. NoAct)
+  does_acts (event.Deliver line number) =
+      message_by line number (deliver number) s (λ c. Acts s (Some (event.Deliver line number)) c) (λ none. refused (event.Deliver line number) (reply.NoMessage number) (rw none refl))
+      (λ m at. message_acts (λ l o is. cc is) number m s (record { start = refl; line = line; delivered = refl; at = at }) NoAct)
+  does_acts (event.Lose line number) =
+      message_by line number (lose number) s (λ c. Acts s (Some (event.Lose line number)) c) (λ none. refused (event.Lose line number) (reply.NoMessage number) (rw none refl))
+      (λ m at. AndThen NoAct (IsAside (Loses number m at)))
+  does_acts (event.Repeat line number) =
+      message_by line number (send_again line) s (λ c. Acts s (Some (event.Repeat line number)) c) (λ none. refused (event.Repeat line number) (reply.NoMessage number) (rw none refl))
+      (λ m at. again_acts line number m at)
+  does_acts (event.Nudge line peer) =
+      unless_by line (no_peer peer s ∷ not_up peer s ∷ []) (nudge_good peer) s (λ c. Acts s (Some (event.Nudge line peer)) c) (λ r why. refused (event.Nudge line peer) r why) (λ none. good_acts line peer)
+  does_acts (event.Fail line peer) =
+      unless_by line (no_peer peer s ∷ not_up peer s ∷ []) (go_down peer) s (λ c. Acts s (Some (event.Fail line peer)) c) (λ r why. refused (event.Fail line peer) r why)
+      (λ none. down_acts (λ l o is. cc is) peer s (record { why = ByLine line refl none; members = refl; lists = refl; catalogues = refl }) NoAct)
+  does_acts (event.Start line peer) =
+      unless_by line (no_peer peer s ∷ not_down peer s ∷ []) (start peer) s (λ c. Acts s (Some (event.Start line peer)) c) (λ r why. refused (event.Start line peer) r why)
+      (λ none. AndThen NoAct (IsAside (Starts line peer refl refl none)))
+
+-- ---- the opening
+
+module _ {s : Core} where
+  opens_act : (shard : ℕ) (c : Core) → Acts s None c → Acts s None (change_view shard c)
+  opens_act shard c xs = go (has_good shard c.members) refl
+    where
+      go : (b : Bool) → has_good shard c.members ≡ b → Acts s None (change_if b (begin_view shard) c)
+      go true good = AndThen xs (Opens shard refl good)
+      go false none = xs
+
+  finds_act : (peer : ℕ) (c : Core) → Acts s None c → Acts s None (note_if_down peer c)
+  finds_act peer c xs = go (is_good_status (status_of peer c)) refl
+    where
+      go : (b : Bool) → is_good_status (status_of peer c) ≡ b → Acts s None (change_if (not b) (note who.Store deed.Nothing (reply.Down peer 0)) c)
+      go true good = xs
+      go false bad = AndThen xs (FindsDown peer refl bad)
+
+pub opening_acts : (s : Core) → Acts s None (note_down (begin_views s))
+opening_acts s =
+    acts_each (all_peers (shape_of (begin_views s))) note_if_down (begin_views s) (acts_each (shards_of s) change_view s NoAct (λ shard c xs. opens_act shard c xs)) (λ peer c xs. finds_act peer c xs)

@@ -1,0 +1,16 @@
+pub mod AskedLemmas
+pub mod ClosedLemmas
+pub mod DoneLemmas
+pub mod EndsLemmas
+pub mod HeardLemmas
+pub mod HubLemmas
+pub mod JournalLemmas
+pub mod KindLemmas
+pub mod KnownLemmas
+pub mod LinesLemmas
+pub mod OpenedLemmas
+pub mod ReadyLemmas
+pub mod ScanLemmas
+pub mod ShownLemmas
+pub mod StopLemmas
+pub mod ToldLemmas

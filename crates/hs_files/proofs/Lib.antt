@@ -1,0 +1,5 @@
+mod ClientLemmas
+mod EndLemmas
+mod StoreLemmas
+mod FetchLemmas
+mod IdleLemmas

@@ -1,0 +1,5 @@
+pub mod Client
+pub mod Fetched
+pub mod Halting
+pub mod Put
+pub mod Stored

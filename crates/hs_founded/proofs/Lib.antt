@@ -1,0 +1,4 @@
+pub mod AcyclicLemmas
+pub mod BytesLemmas
+pub mod NamedLemmas
+pub mod StoreLemmas

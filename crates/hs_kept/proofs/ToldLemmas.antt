@@ -1,0 +1,80 @@
+-- An asker over sound disks that tell, with one copy of each shard, shows what is lawful.
+use Rattle.std.proofs.Common.{◌≡◌, ◌∙◌, ap, sym, subst, refl, ℕ, ◌*◌, List, [], ◌∷◌, length, map, Option, Some, None, arith}
+use Rattle.std.proofs.lemmas.List.{length-map}
+use Rattle.std.specs.List.{AllByRecursion}
+use Rattle.hs_asker.proofs.ToldLemmas.{ran_so}
+use Rattle.hs_asker.specs.Going.{AtEntry, Inside, IsAsker}
+use Rattle.hs_asker.specs.Shows.{IsTold, began_by, entry_lists, shown_in}
+use Rattle.hs_asker.specs.Silent.{asking_script, silent, status_by}
+use Rattle.hs_asking.specs.Lawful.{AreAnswersOf}
+use Rattle.hs_asking.specs.Shown.{store_now}
+use Rattle.hs_clauses.proofs.TakenLemmas.{lists_are}
+use Rattle.hs_clauses.specs.Shown.{IsToldRun, OnDisks}
+use Rattle.hs_cluster.specs.Disks.{DiskSeen, stands_of}
+use Rattle.hs_desk.specs.declared.fault.CoreFault.{CoreFault}
+use Rattle.hs_events.specs.Taken.{or_blank, taken_lists}
+use Rattle.hs_fold.specs.Shards.Setting.{Numbered}
+use Rattle.hs_founded.specs.Spelled.{AreSpelled, HoldBytes}
+use Rattle.hs_model.specs.Store.{held_at as store_held}
+use Rattle.hs_promise.specs.Run.{Script}
+use Rattle.hs_run.specs.Ended.{ran_at}
+use Rattle.hs_run.specs.Machine.{IsOfCluster}
+use Rattle.hs_side.specs.Current.{list_in}
+use Rattle.hs_standing.specs.Held.{GivesAddresses}
+use Rattle.hs_tokens.specs.Seats.{held_at, seat_of}
+use Rattle.hs_kept.proofs.HeldLemmas.{held_there}
+use Rattle.hs_kept.proofs.LawLemmas.{Laws}
+use Rattle.hs_kept.proofs.RunLemmas.{AnswersFrom, answers_from, on_disks, told_run}
+use Rattle.hs_kept.specs.Entry.{IsSoundEntry}
+
+-- the lists of disks that hold bytes
+all_spelled : Laws → (disks : List DiskSeen) → HoldBytes (stands_of disks) → AllByRecursion AreSpelled (or_blank (map (λ disk. list_in disk.stands.seen) disks))
+all_spelled laws [] bytes = tt
+all_spelled laws (disk ∷ disks) bytes = (laws.spelled disk.stands.seen bytes.0, all_spelled laws disks bytes.1)
+
+module _ (laws : Laws) (tells : Type 0) (e : AtEntry) (told : tells) (one : e.set.shape.copies ≡ 1) (names : GivesAddresses e.set.name) (entry : IsSoundEntry e) where
+  -- of any run of an asker
+  module _ (s : Inside) (h : IsAsker tells e.set.name e s) where
+    abbrev S : Script
+    S = asking_script e.set s.asked
+
+    cluster : IsOfCluster tells (asking_script e.set s.asked) (ran_at (status_by s.ended) s.line (Some s.cluster) (silent e.moment e.disks) (silent s.now s.disks))
+    cluster = ran_so tells e.set.name e s h
+
+    run : IsToldRun (asking_script e.set s.asked) (ran_at (status_by s.ended) s.line (Some s.cluster) (silent e.moment e.disks) (silent s.now s.disks))
+    run = told_run tells S (ran_at (status_by s.ended) s.line (Some s.cluster) (silent e.moment e.disks) (silent s.now s.disks)) told one names cluster
+
+    answers : AnswersFrom (asking_script e.set s.asked) (began_by e).store s.cluster.core.journal
+    answers = answers_from laws S (ran_at (status_by s.ended) s.line (Some s.cluster) (silent e.moment e.disks) (silent s.now s.disks)) run e.disks refl entry.sound
+
+    lists_same : taken_lists e.set.shape (entry_lists e) ≡ or_blank (entry_lists e)
+    lists_same =
+        let long : length (entry_lists e) ≡ e.set.shape.shards =
+        length-map e.disks (λ disk. list_in disk.stands.seen) ∙ h.count ∙ ap (λ n. e.set.shape.shards * n) one ∙ omega arith in
+        lists_are e.set.shape (entry_lists e) one long
+
+    spelled : AllByRecursion AreSpelled (taken_lists e.set.shape (entry_lists e))
+    spelled = subst (λ (lists : List Numbered). AllByRecursion AreSpelled lists) (sym lists_same) (all_spelled laws e.disks entry.bytes)
+
+    lawful : AreAnswersOf (began_by e) (shown_in e s)
+    lawful = record {
+      valid = entry.sound.sound.valid;
+      distinct = laws.distinct e.set (taken_lists e.set.shape (entry_lists e));
+      blocks = λ a stored at. (laws.named e.set (taken_lists e.set.shape (entry_lists e)) h.shape entry.sound spelled a stored at).bounds;
+      named = λ a stored at. (laws.named e.set (taken_lists e.set.shape (entry_lists e)) h.shape entry.sound spelled a stored at).named;
+      acyclic = laws.acyclic e.set (taken_lists e.set.shape (entry_lists e)) h.shape entry.sound;
+      legal = answers.legal;
+      answered = answers.replied;
+      led = answers.led;
+    }
+
+    held : s.ended ≡ None → (session : List ℕ) (handle : ℕ) → held_at (seat_of session s.cluster.core.sessions) handle ≡ store_held (store_now (began_by e) (shown_in e s)) session handle
+    held none =
+        let ran : IsOfCluster tells (asking_script e.set s.asked) (ran_at (status_by None) s.line (Some s.cluster) (silent e.moment e.disks) (silent s.now s.disks)) =
+        subst (λ (o : Option CoreFault). IsOfCluster tells (asking_script e.set s.asked) (ran_at (status_by o) s.line (Some s.cluster) (silent e.moment e.disks) (silent s.now s.disks))) none cluster in
+        let on : OnDisks (asking_script e.set s.asked) (ran_at (status_by None) s.line (Some s.cluster) (silent e.moment e.disks) (silent s.now s.disks)) =
+        on_disks tells S (ran_at (status_by None) s.line (Some s.cluster) (silent e.moment e.disks) (silent s.now s.disks)) told one names ran in
+        held_there laws tells e s h told entry none on
+
+  pub told_by : IsTold tells e
+  told_by s h = record { lawful = lawful s h; held = held s h }

@@ -1,0 +1,24 @@
+use Rattle.hs_kept.proofs.FilesLemmas.{fetches_plainly, stores_plainly}
+use Rattle.hs_kept.proofs.LawLemmas.{Laws}
+use Rattle.hs_kept.proofs.files.a_file_is_kept.Goals as goal
+
+pub returns : goal.returns
+returns g c =
+    let laws : Laws = record {
+      answers = c.a_run_is_answered.ensures.answers;
+      opens = c.a_run_stands.ensures.opens;
+      stands = c.a_run_stands.ensures.keeps;
+      running = c.a_run_goes_on.ensures.opens;
+      goes_on = c.a_run_goes_on.ensures.goes_on;
+      led = c.shard_0_is_led_by_lines.ensures.went;
+      led_ended = c.shard_0_is_led_by_lines.ensures.ended;
+      led_never = c.shard_0_is_led_by_lines.ensures.never;
+      distinct = c.a_store_of_sound_lists_is_right.ensures.distinct;
+      acyclic = c.a_store_of_sound_lists_is_right.ensures.acyclic;
+      named = c.a_store_of_sound_lists_is_right.ensures.named;
+      spelled = c.a_store_of_sound_lists_is_right.ensures.spelled;
+    } in
+    record {
+      store = λ name shape key r told one names sound h. stores_plainly laws g.D.Disk.tells name shape r told one names sound key h;
+      fetch = λ name shape key r told one names sound h. fetches_plainly laws g.D.Disk.tells name shape r told one names sound key h;
+    }

@@ -1,0 +1,11 @@
+pub mod CompareLemmas
+pub mod ConcludeLemmas
+pub mod CountLemmas
+pub mod FinishLemmas
+pub mod GatherLemmas
+pub mod HandLemmas
+pub mod JoinLemmas
+pub mod JudgeLemmas
+pub mod ListLemmas
+pub mod ReadyLemmas
+pub mod TeamLemmas

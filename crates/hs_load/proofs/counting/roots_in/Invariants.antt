@@ -1,0 +1,10 @@
+use Rattle.std.proofs.Common.{◌≡◌, ◌≤◌, ◌*◌, take}
+use Rattle.std.specs.Prelude.{sum_by}
+use Rattle.hs_roots.specs.Roots.{retained_count}
+use Rattle.hs_load.proofs.counting.roots_in.Given as goal
+
+abbrev pub invariant-loop-shard : goal.invariant-loop-shard
+invariant-loop-shard l = record {
+  sum : l.sum ≡ sum_by (λ c. retained_count c.roots) (take l.shard l.core.catalogues);
+  fits : l.sum ≤ l.shard * 4294967296;
+}

@@ -1,0 +1,9 @@
+pub mod Compared
+pub mod Joined
+pub mod Judged
+pub mod Judgement
+pub mod Loaded
+pub mod Owners
+pub mod Seating
+pub mod Tallied
+pub mod Team

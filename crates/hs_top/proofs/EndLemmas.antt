@@ -1,0 +1,79 @@
+-- A run whose last line was gone past came to rest.
+use Rattle.std.proofs.Common.{◌≡◌, ◌∙◌, inl, inr, ap, sym, subst, refl, ℕ, zero, suc, ◌+◌, ◌*◌, ◌-◌, ◌^◌, ◌<◌, ◌&&◌, ◌==◌, arith, not, cond, nat_lt, Bool, true, false, List, Option, Some, None, length, filter, if◌then◌else◌}
+use Rattle.std.proofs.lemmas.List.Filters.{sum_by-filter_both}
+use Rattle.std.specs.Prelude.{count_by}
+use Rattle.hs_clauses.proofs.FoundLemmas.{opens_good}
+use Rattle.hs_events.specs.Beginning.{first_items}
+use Rattle.hs_events.specs.Found.{starts_good}
+use Rattle.hs_events.specs.Taken.{peer_count, taken_items}
+use Rattle.hs_fold.specs.Good.{good_from, is_good}
+use Rattle.hs_journal.specs.declared.entry.JournalEntry.{JournalEntry}
+use Rattle.hs_journal.specs.Moments.{below}
+use Rattle.hs_journal.specs.Notes.{is_note, note_count}
+use Rattle.hs_model.specs.declared.course.CourseItem.{CourseItem}
+use Rattle.hs_ports.specs.Moments.{disk_at}
+use Rattle.hs_promise.specs.Ending.{ending_of}
+use Rattle.hs_promise.specs.Entry.{MayStop, counted_course, entry_logs, still_counts}
+use Rattle.hs_promise.specs.Lost.{IsPast, NotesEnd}
+use Rattle.hs_promise.specs.Machine.{Went, WentAs}
+use Rattle.hs_promise.specs.Run.{Ran, Script}
+use Rattle.hs_promise.specs.Story.{Story}
+use Rattle.hs_promise.specs.Untold.{NoneFails}
+use Rattle.hs_run.specs.Machine.{IsOfCluster}
+use Rattle.hs_top.proofs.PastLemmas.{never_past, wanting_past}
+use Rattle.hs_top.specs.Rest.{EndsAtRest, HasOneList}
+
+-- what hs_settled says of good peers and of notes
+pub record GoodLaws : Type 0 where
+  pub opens : (S : Script) (r : Ran) (story : Story) → S.set.shape.copies ≡ 1 → Went S r story → IsPast r 0 → (peer : ℕ) → peer < peer_count S.set.shape → starts_good story.found peer ≡ true
+  pub stays : (S : Script) (r : Ran) (story : Story) → S.set.shape.copies ≡ 1 → Went S r story → IsPast r 0 → (m peer : ℕ) → peer < peer_count S.set.shape
+      → good_from false (first_items S.set.shape story.found r.old.moment) m peer ≡ true → note_count peer (below m r.journal) ≡ 0 → NoneFails S r peer → is_good r.course m peer ≡ true
+  pub notes : (S : Script) (r : Ran) (how : Option Story) → S.set.shape.copies ≡ 1 → WentAs S r how → NotesEnd r
+
+-- where nobody is told to be down, nobody is below a moment
+none_below : (m peer : ℕ) (journal : List JournalEntry) → note_count peer journal ≡ 0 → note_count peer (below m journal) ≡ 0
+none_below m peer journal none =
+    let both : note_count peer (below m journal) + count_by (is_note peer) (filter (λ entry. not (nat_lt entry.moment m)) journal) ≡ note_count peer journal =
+    sum_by-filter_both (λ entry. nat_lt entry.moment m) (λ entry. not (nat_lt entry.moment m)) (λ entry. refl) (λ entry. cond (is_note peer entry) 1 0) journal in
+    omega (arith, both, none)
+
+-- the last line was gone past, and so was opening
+opening_past : (r : Ran) → (ending_of r.ending).past ≡ true → IsPast r 0
+opening_past r past = go r.line refl
+  where
+    go : (n : ℕ) → r.line ≡ n → IsPast r 0
+    go zero e = inr (sym e, past)
+    go (suc n) e = inl (omega (arith, e))
+
+-- memory was not wanting then, so that its course counts
+counted_past : (S : Script) (r : Ran) → (ending_of r.ending).past ≡ true → counted_course S r ≡ r.course
+counted_past S r past = go (ending_of r.ending).wanting refl
+  where
+    go : (w : Bool) → (ending_of r.ending).wanting ≡ w → counted_course S r ≡ r.course
+    go true e = absurd (wanting_past r.ending e past)
+    go false e = ap (λ w. if w && length r.course == 0 then filter (still_counts r) (taken_items S.set.shape (entry_logs S r) r.old.moment) else r.course) e
+
+module _ (laws : GoodLaws) (tells : Type 0) (S : Script) (r : Ran) (one : S.set.shape.copies ≡ 1) (cluster : IsOfCluster tells S r) (told : tells) (may : MayStop S r) (past : (ending_of r.ending).past ≡ true)
+    (none : (peer : ℕ) → NoneFails S r peer) where
+  good_by : (how : Option Story) → WentAs S r how → (peer : ℕ) → peer < peer_count S.set.shape → is_good r.course (r.new.moment + 1) peer ≡ true
+  good_by None went peer low = absurd (never_past r went (opening_past r past))
+  good_by (Some story) went peer low =
+      let count : S.set.shape.shards * S.set.shape.copies ≡ S.set.shape.shards = ap (λ n. S.set.shape.shards * n) one ∙ omega arith in
+      let within : peer < S.set.shape.shards * S.set.shape.copies = low in
+      let up = cluster.served.time.later in
+      laws.stays S r story one went (opening_past r past) (r.new.moment + 1) peer low
+      (opens_good S r story went.found one (r.new.moment + 1) peer (omega (arith, up)) (omega (arith, within, count)) (laws.opens S r story one went (opening_past r past) peer low))
+      (none_below (r.new.moment + 1) peer r.journal ((laws.notes S r cluster.how one cluster.went).past past peer)) (none peer)
+
+  pub ends_rest : r.new.moment + 1 < 2 ^ 64 - 1 → ((peer : ℕ) → peer < length r.new.disks → HasOneList (disk_at r.new.disks peer)) → EndsAtRest S r
+  ends_rest early lists = record {
+    moment = r.new.moment + 1;
+    above = let up = cluster.served.time.later in omega (arith, up);
+    up_to = omega arith;
+    early = early;
+    still = λ peer low. let last = (cluster.served.past one told).called peer (may.none.called peer) in omega (arith, last);
+    good = λ peer low.
+        subst (λ (course : List CourseItem). is_good course (r.new.moment + 1) peer ≡ true) (sym (counted_past S r past))
+        (good_by cluster.how cluster.went peer (let back = cluster.served.handed_back in let all = cluster.count in omega (arith, low, back, all)));
+    lists = lists;
+  }
