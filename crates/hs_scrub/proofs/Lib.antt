@@ -1,7 +1,6 @@
 mod AllLemmas
 mod CauseLemmas
 mod CopyLemmas
-mod DeltaLemmas
 mod EmptyLemmas
 mod FromLemmas
 mod GiveLemmas

@@ -1,4 +1,3 @@
-pub mod Ascending
 pub mod Copied
 pub mod CopySteps
 pub mod Marks

@@ -13,12 +13,12 @@ ghost use Rattle.hs_side.specs.Standing.{Stands};
 ghost use Rattle.hs_taking.specs.Disks.{seen_as, seen_at};
 
 use crate::compare::read_at;
-use crate::readable::is_readable;
 use crate::shard::lost_mark;
 use crate::{PeerMark, ScrubFault};
 use hs_entry::Entry;
 use hs_peerlog::{LogFault, PeerLog, PeerView};
 use hs_ports::{Disk, Watch};
+use hs_readable::is_readable;
 
 /// What came of giving a list.
 #[derive(Clone, Copy, Debug)]

@@ -10,7 +10,6 @@ mod giving;
 mod laws;
 mod look;
 mod mark;
-mod readable;
 mod scrubbing;
 mod shard;
 mod text;

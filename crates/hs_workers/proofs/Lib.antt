@@ -1,4 +1,3 @@
 pub mod AskLemmas
-pub mod DeltaLemmas
 pub mod StageLemmas
 pub mod WorkLemmas

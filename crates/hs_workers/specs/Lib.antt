@@ -1,4 +1,3 @@
-pub mod Ascending
 pub mod Asks
 pub mod Elements
 pub mod Stages

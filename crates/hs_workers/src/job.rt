@@ -8,11 +8,11 @@ ghost use Rattle.hs_desk.specs.declared.job.Work.TheVariants as work;
 ghost use Rattle.hs_workers.specs.Work.{Has, HasDone, IsInPlace, RefusesWork, bench_of, is_failed, shown_of, next_to_append};
 
 use crate::WorkFault;
-use crate::readable::is_readable;
 use hs_desk::{Done, Job};
 use hs_entry::Entry;
 use hs_peerlog::{LogFault, PeerLog};
 use hs_ports::{Disk, Watch};
+use hs_readable::is_readable;
 
 /// Does a job that a desk handed out. `place` numbers were stored before.
 pub(crate) fn do_job<D: Disk>(

@@ -9,7 +9,6 @@ mod element;
 mod fault;
 mod job;
 mod peer;
-mod readable;
 mod shared;
 mod stage;
 mod sums;

@@ -1,6 +1,6 @@
 //! Whether an entry may stand on a disk.
 ghost use Rattle.std.specs.Prelude.{◌≡◌, ◌&&◌, All, IsTrue, None, length, nat_le, true};
-ghost use Rattle.hs_workers.specs.Ascending.{are_ascending};
+ghost use Rattle.hs_readable.specs.Ascending.{are_ascending};
 ghost use Rattle.hs_entry.specs.Reading.{AreDeltas, IsDelta, IsReadable, comes_after, is_epoch};
 
 use hs_entry::Entry;
@@ -8,7 +8,7 @@ use hs_limits::{Address, Delta, spelt};
 
 /// Whether an entry is within the bounds of its kind, and of a kind that is written so far. It takes
 /// no memory.
-pub(crate) fn is_readable(entry: &Entry) -> bool
+pub fn is_readable(entry: &Entry) -> bool
     ensures readable { IsTrue result → IsReadable entry.now }
     ensures only { IsReadable entry.now → result ≡ true }
 {

@@ -1,5 +1,5 @@
 -- Deltas that ascend are those of an entry.
-use Rattle.std.proofs.Common.{◌≡◌, ◌<◌, ◌≤◌, ◌&&◌, ap, suc, Bool, true, false, ℕ, List, [], ◌∷◌, length, map, Option, Some, None, refl, arith, leb}
+use Rattle.std.proofs.Common.{◌≡◌, ◌≤◌, ◌&&◌, ap, suc, Bool, true, false, ℕ, List, [], ◌∷◌, length, map, Option, Some, None, refl, arith, leb}
 use Rattle.std.specs.declared.cmp.Ordering.{Ordering}
 use Rattle.std.specs.declared.cmp.Ordering.TheVariants.{Less, Equal, Greater}
 use Rattle.std.proofs.lemmas.Cmp.{nat_list_cmp_total}
@@ -7,7 +7,7 @@ use Rattle.std.specs.List.{AllByRecursion}
 use Rattle.std.specs.List.Sorted.{IsStrictlySortedBy}
 use Rattle.std.specs.Ordering.{is_lt}
 use Rattle.std.specs.Prelude.{All, ⊤}
-use Rattle.hs_workers.specs.Ascending.{are_ascending}
+use Rattle.hs_readable.specs.Ascending.{are_ascending}
 use Rattle.hs_entry.specs.Reading.{AreDeltas, IsDelta, address_cmp, comes_after}
 use Rattle.hs_limits.specs.declared.address.Address.{Address}
 use Rattle.hs_limits.specs.declared.delta.Delta.{Delta}

@@ -1,9 +1,9 @@
 use Rattle.std.proofs.Common.{◌≡◌, ◌<◌, ℕ, drop, None}
 use Rattle.std.specs.Prelude.{slice_index_or}
-use Rattle.hs_scrub.specs.Ascending.{are_ascending}
+use Rattle.hs_readable.specs.Ascending.{are_ascending}
 use Rattle.hs_entry.specs.Reading.{IsDelta}
 use Rattle.hs_limits.specs.declared.delta.Delta.{Delta}
-use Rattle.hs_scrub.proofs.readable.are_ascending.Given as goal
+use Rattle.hs_readable.proofs.readable.are_ascending.Given as goal
 
 abbrev pub invariant-loop-delta : goal.invariant-loop-delta
 invariant-loop-delta l = record {
