@@ -1,6 +1,5 @@
 -- The log that is chosen by its rank has the list that counts.
-use Rattle.std.proofs.Common.{◌≡◌, ◌∙◌, ◌+◌, ◌<◌, ◌⊎◌, inl, inr, ◌==◌, ◌&&◌, ◌||◌, ℕ, zero, suc, List, [], ◌∷◌, Bool, true, false, not, cond, refl, sym, ap, subst, length, arith, Option, None, Some, nat_lt, get_or}
-use Rattle.std.proofs.lemmas.Bool.{false≢true}
+use Rattle.std.proofs.Common.{◌≡◌, ◌∙◌, ◌+◌, ◌<◌, ◌⊎◌, inl, inr, ◌==◌, ◌&&◌, ◌||◌, ℕ, zero, suc, List, [], ◌∷◌, Bool, true, false, not, refl, sym, ap, subst, length, arith, Option, None, Some, nat_lt, get_or}
 use Rattle.std.proofs.lemmas.Bool.Decides.{nat_tests}
 use Rattle.std.specs.Prelude.{unwrap_or}
 use Rattle.hs_coldstart.proofs.ChooseLemmas.{IsBelow, IsBest, IsSoFar, chosen_at_end, so_far_more}
@@ -10,6 +9,7 @@ use Rattle.hs_entry.specs.Entries.{rank_of}
 use Rattle.hs_fold.specs.Opened.{chosen, outranks}
 use Rattle.hs_fold.specs.Shards.Setting.{Numbered}
 use Rattle.hs_peerlog.specs.Lists.{IsNumbered}
+use Rattle.hs_taking.proofs.ChosenLemmas.{chosen_at, none_below}
 use Rattle.hs_taking.proofs.LoadLemmas.{count_is}
 
 -- ---- ranks
@@ -18,44 +18,12 @@ rank_none : rank_of [] ≡ record { view = 0; number = 0 }
 unfolding rank_of
 rank_none = refl
 
-none_below : (rank : Rank) → outranks (rank_of []) rank ≡ false
-none_below rank = ap (λ (r : Rank). outranks r rank) rank_none ∙ low rank.view rank.number
-  where
-    low : (view number : ℕ) → (nat_lt view 0 || (0 == view && nat_lt number 0)) ≡ false
-    low view number = grind (arith, nat_tests)
-
 -- a rank that is not above the empty list's is that
 is_least : (rank : Rank) → outranks rank (rank_of []) ≡ false → rank.number ≡ 0
 is_least rank h = low rank.view rank.number (sym (ap (λ (r : Rank). outranks rank r) rank_none) ∙ h)
   where
     low : (view number : ℕ) → (nat_lt 0 view || (view == 0 && nat_lt 0 number)) ≡ false → number ≡ 0
     low view number h = grind (arith, nat_tests)
-
--- ---- the list at a place counts
-
--- all are up to a rank
-chosen_up_to : (lists : List Numbered) (rank : Rank) → ((i : ℕ) → i < length lists → outranks (rank_of (get_or lists i [])) rank ≡ false) → outranks (rank_of (chosen lists)) rank ≡ false
-chosen_up_to [] rank h = none_below rank
-chosen_up_to (list ∷ lists) rank h = go (outranks (rank_of (chosen lists)) (rank_of list)) (chosen_up_to lists rank (λ i low. h (suc i) (omega (arith, low))))
-  where
-    go : (b : Bool) → outranks (rank_of (chosen lists)) rank ≡ false → outranks (rank_of (cond b (chosen lists) list)) rank ≡ false
-    go true ih = ih
-    go false ih = h 0 (omega arith)
-
-chosen_at : (lists : List Numbered) (k : ℕ) → k < length lists
-    → ((i : ℕ) → i < k → (outranks (rank_of (get_or lists k [])) (rank_of (get_or lists i [])) ≡ true) ⊎ (get_or lists i [] ≡ get_or lists k []))
-    → ((i : ℕ) → i < length lists → outranks (rank_of (get_or lists i [])) (rank_of (get_or lists k [])) ≡ false)
-    → chosen lists ≡ get_or lists k []
-chosen_at [] k low before up = absurd (omega (arith, low))
-chosen_at (list ∷ lists) zero low before up = ap (λ b. cond b (chosen lists) list) (chosen_up_to lists (rank_of list) (λ i less. up (suc i) (omega (arith, less))))
-chosen_at (list ∷ lists) (suc k) low before up =
-    go (before 0 (omega arith)) (outranks (rank_of (chosen lists)) (rank_of list)) refl
-    (chosen_at lists k (omega (arith, low)) (λ i less. before (suc i) (omega (arith, less))) (λ i less. up (suc i) (omega (arith, less))))
-  where
-    go : (outranks (rank_of (get_or lists k [])) (rank_of list) ≡ true) ⊎ (list ≡ get_or lists k []) → (b : Bool) → outranks (rank_of (chosen lists)) (rank_of list) ≡ b → chosen lists ≡ get_or lists k [] → cond b (chosen lists) list ≡ get_or lists k []
-    go h true e ih = ih
-    go (inl above) false e ih = absurd (false≢true (sym e ∙ ap (λ (l : Numbered). outranks (rank_of l) (rank_of list)) ih ∙ above))
-    go (inr same) false e ih = same
 
 -- ---- the place of greatest rank
 

@@ -1,5 +1,5 @@
 -- What the text of an audit says of the store.
-use Rattle.std.proofs.Common.{inl, inr, ◌≡◌, ◌≢◌, ◌∙◌, ◌+◌, ◌++◌, ◌∷◌, ◌<◌, ◌≤◌, ◌/◌, ◌%◌, ◌==◌, ◌&&◌, [], ℕ, zero, suc, List, Option, None, Some, Bool, true, false, cond, refl, sym, ap, subst, map, filter, length, is_none, is_some, arith, nat_lt, append_assoc}
+use Rattle.std.proofs.Common.{inl, inr, ◌≡◌, ◌∙◌, ◌+◌, ◌++◌, ◌∷◌, ◌<◌, ◌≤◌, ◌/◌, ◌%◌, ◌==◌, ◌&&◌, [], ℕ, zero, suc, List, Option, None, Some, Bool, true, false, cond, refl, sym, ap, subst, map, filter, length, is_none, is_some, arith, nat_lt, append_assoc}
 use Rattle.std.proofs.lemmas.Bool.{false≢true}
 use Rattle.std.proofs.lemmas.Bool.Decides.{nat_tests}
 use Rattle.std.specs.BTreeMap.{insert_entry}
@@ -15,7 +15,7 @@ use Rattle.std.specs.Prelude.{Contains, codes}
 use Rattle.hs_audit.proofs.AscendingLemmas.{among-ascending, sorted-ascending, sorted-insert, sorted_none}
 use Rattle.hs_audit.proofs.MissingLemmas.{among-filter}
 use Rattle.hs_audit.specs.Laws.{AreMissing, EndsOk}
-use Rattle.hs_audit.specs.Missing.{ascending, kept_by_roots, missing}
+use Rattle.hs_audit.specs.Missing.{kept_by_roots, missing}
 use Rattle.hs_audit.specs.Text.{last_line, missing_line, report, shard_line}
 use Rattle.hs_fold.specs.Catalogue.{Present}
 use Rattle.hs_fold.specs.Opened.{both}

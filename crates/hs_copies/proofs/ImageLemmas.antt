@@ -1,11 +1,11 @@
 -- The images stay fine, and the one of greatest rank has all that took effect.
 use Rattle.std.proofs.Common.{◌≡◌, ℕ, suc, ◌≤◌, Bool, true, false, List, [], ◌∷◌, ◌++◌, inl, inr, refl, arith, length, ap, ◌∙◌}
-use Rattle.std.specs.Prelude.{take}
-use Rattle.hs_copies.specs.Lists.{Item, IsFront}
+use Rattle.std.specs.Prelude.{Some, slice_get, take}
+use Rattle.hs_copies.specs.Lists.{Agree, Item, IsFront}
 use Rattle.hs_copies.specs.Machine.{Stage, Good, Clearing, Following, Down, PeerCopy, Copies, CopyEvent, Propose, Send, CopyComes, Sealed, HaveComes, TakesEffect, Fail, GiveUp, Start, Cleared, Copying, Copied, Join, put_at, item, told_copy, stage_again, begin_again, with_new_view, CanCome, after_event}
 use Rattle.hs_copies.specs.Invariant.{reach, AreFaithful}
 use Rattle.hs_copies.specs.Images.{KeepsSealed, IsFine, IsReported, AreImages, HasGreatestRank}
-use Rattle.hs_copies.proofs.ListLemmas.{front_refl, front_trans, front_more, front_both, append_nil, take_length}
+use Rattle.hs_copies.proofs.ListLemmas.{agree_entry, agree_front_of, agree_sym, front_refl, front_trans, front_more, front_both, append_nil, take_length}
 use Rattle.hs_copies.proofs.PeerLemmas.{put_cases, reach_none}
 use Rattle.hs_copies.proofs.OpenedLemmas.{took_good, lineage_right}
 
@@ -100,3 +100,19 @@ stop s r p y images g h =
     let took : IsFront s.took (images p) = front_both s.took (images p) (s.peers p).list (took_good s r p g.is_good) front (omega (arith, n, c.told, c.front)) in
     let here : IsFront (images y) (reach (s.peers y)) = elim (g.others y) [ inl k ↦ k.front | inr k ↦ rw k tt ] in
     (front_trans s.took (images p) (images y) took (lineage_right s r p y (images p) (images y) g.is_good front here (h p)), here)
+
+-- ---- two of them
+
+-- entries of one view at one number are equal, whatever two disks are left with
+pub one_entry : {X : Type 0} (s : Copies X) → AreFaithful s → (p q n : ℕ) (l k : List (Item X)) (x y : Item X) → IsFine (s.peers p) l → IsFine (s.peers q) k → slice_get l n ≡ Some x → slice_get k n ≡ Some y → x.view ≡ y.view → x ≡ y
+one_entry s r p q n l k x y f g a b e =
+    let one : Agree l (reach (s.peers q)) = agree_front_of l (reach (s.peers p)) (reach (s.peers q)) f.front (r.agree p q) in
+    let two : Agree k l = agree_front_of k (reach (s.peers q)) l g.front (agree_sym l (reach (s.peers q)) one) in
+    agree_entry l k n x y (agree_sym k l two) a b e
+
+-- that of a good peer with a front of the lead's list
+pub good_front : {X : Type 0} (s : Copies X) → AreFaithful s → (p : ℕ) (l : List (Item X)) → (s.peers p).stage ≡ Good → IsFine (s.peers p) l → IsFront l s.log
+good_front s r p l g f =
+    let good = r.good p g in
+    let own : IsFront l (s.peers p).list = rw (← reach_none (s.peers p) good.nothing) f.front in
+    front_trans l (s.peers p).list s.log own good.prefix

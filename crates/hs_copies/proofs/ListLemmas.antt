@@ -216,6 +216,14 @@ take_none : {X : Type 0} (xs log : List X) → IsFront (take 0 xs) log
 take_none [] log = tt
 take_none (x ∷ xs) log = tt
 
+-- and entries of one view at one number are one
+pub agree_entry : {X : Type 0} (xs ys : List (Item X)) (n : ℕ) (x y : Item X) → Agree xs ys → slice_get xs n ≡ Some x → slice_get ys n ≡ Some y → x.view ≡ y.view → x ≡ y
+agree_entry [] ys n x y g a b e = absurd (cc a)
+agree_entry (c ∷ xs) [] n x y g a b e = absurd (cc b)
+agree_entry (c ∷ xs) (d ∷ ys) n x y (inr g) a b e = absurd (apart_get (c ∷ xs) (d ∷ ys) n x y g a b e)
+agree_entry (c ∷ xs) (d ∷ ys) zero x y (inl g) a b e = cc (sym a ∙ ap (λ z. Some z) g.0 ∙ b)
+agree_entry (c ∷ xs) (d ∷ ys) (suc n) x y (inl g) a b e = agree_entry xs ys n x y g.1 a b e
+
 below_at : {X : Type 0} (v : ℕ) (xs : List (Item X)) (n : ℕ) (x : Item X) → AreBelow v xs → slice_get xs n ≡ Some x → x.view < v
 below_at v [] n x b e = absurd (cc e)
 below_at v (y ∷ xs) zero x b e = let k : y ≡ x = cc e in omega (arith, view_ap y x k, b.0)

@@ -15,4 +15,7 @@ pub use lineage::a_list_of_greater_rank_goes_on_from_a_good_one;
 pub use lines::pending_entries_are_of_open_lines;
 pub use run::runs_of_the_core_are_runs_of_the_machine;
 pub use stamps::stamps_of_good_copies_are_fronts_of_the_leads;
-pub use stop::{images_are_fronts, the_list_of_greatest_rank_has_all_that_took_effect};
+pub use stop::{
+    entries_of_one_stamp_are_equal, images_are_fronts,
+    the_list_of_greatest_rank_has_all_that_took_effect,
+};

@@ -1,5 +1,5 @@
 //! What a stop leaves on the disks, and what is chosen of it.
-ghost use Rattle.std.specs.Prelude.{◌≡◌, ℕ, List, Option};
+ghost use Rattle.std.specs.Prelude.{◌≡◌, ℕ, List, Option, Some, slice_get};
 ghost use Rattle.hs_entry.specs.declared.entry.Entry.{Entry};
 ghost use Rattle.hs_replica.specs.Group.{view_after};
 ghost use Rattle.hs_copies.specs.CoreCopies.{CoreCopies};
@@ -7,7 +7,7 @@ ghost use Rattle.hs_copies.specs.Images.{AreImages, HasGreatestRank, IsFine, IsR
 ghost use Rattle.hs_copies.specs.Invariant.{AreFaithful};
 ghost use Rattle.hs_copies.specs.Lines.{LinedCopies};
 ghost use Rattle.hs_copies.specs.Lists.{IsAtMost, IsFront, Item};
-ghost use Rattle.hs_copies.specs.Machine.{Copies, CopyEvent, CanCome, after_event};
+ghost use Rattle.hs_copies.specs.Machine.{Copies, CopyEvent, CanCome, Good, after_event};
 ghost use Rattle.hs_copies.specs.Runs.{IsChosen, IsSinceOpening, EntryReading};
 ghost use Rattle.hs_copies.specs.Stamps.{rank_told};
 ghost use Rattle.hs_copies.specs.Standing.{StandsFor};
@@ -17,6 +17,16 @@ ghost use Rattle.hs_copies.specs.Standing.{StandsFor};
 pub fn images_are_fronts()
     ensures kept { (s : Copies Entry) (q : ℕ) (l : List (Item Entry)) (event : CopyEvent Entry) → AreFaithful s
         → IsFine (s.peers q) l → CanCome s event → IsReported s event q l → IsFine ((after_event event s).peers q) l }
+{}
+
+/// Entries of one view at one number are equal, whatever the disks of two peers may leave; and what that of a
+/// good peer may leave is a front of the lead's list.
+pub fn entries_of_one_stamp_are_equal()
+    ensures entries { (s : Copies Entry) (p q n : ℕ) (l k : List (Item Entry)) (x y : Item Entry) → AreFaithful s
+        → IsFine (s.peers p) l → IsFine (s.peers q) k → slice_get l n ≡ Some x → slice_get k n ≡ Some y
+        → x.view ≡ y.view → x ≡ y }
+    ensures front { (s : Copies Entry) (p : ℕ) (l : List (Item Entry)) → AreFaithful s → (s.peers p).stage ≡ Good
+        → IsFine (s.peers p) l → IsFront l s.log }
 {}
 
 /// Among what the disks may leave, of a good peer and of others that are behind or blank, the list of

@@ -13,8 +13,9 @@ use Rattle.hs_fold.specs.Shards.Setting.{Numbered}
 use Rattle.hs_limits.specs.declared.shape.Shape.{Shape}
 use Rattle.hs_limits.specs.Shape.{peer_of}
 use Rattle.hs_peerlog.specs.Views.{Viewing}
-use Rattle.hs_taking.proofs.RunLemmas.{chosen_peer}
+use Rattle.hs_taking.proofs.ChoiceLemmas.{chosen_within}
 use Rattle.hs_taking.specs.Copies.{IsFirst, IsOf}
+use Rattle.hs_taking.specs.Evens.{chosen_peer}
 
 -- the ranks of the views of a shard's peers
 abbrev own_ranks : Shape → List (Option Viewing) → ℕ → List (Option Rank)
@@ -30,6 +31,19 @@ own_long shape views shard long =
     let d = length-drop (peer_of shape shard 0) (map (λ view. option_map (λ v. v.rank) view) views) in
     let m = length-map views (λ view. option_map (λ v. v.rank) view) in
     length-take-le shape.copies (drop (peer_of shape shard 0) (map (λ view. option_map (λ v. v.rank) view) views)) (omega (arith, d, m, long))
+
+-- the peer that is chosen is one of the shard
+pub chosen_home : (shape : Shape) (views : List (Option Viewing)) (shard : ℕ) → 0 < shape.copies → peer_of shape shard 0 + shape.copies ≤ length views → IsOf shape shard (chosen_peer shape views shard)
+chosen_home shape views shard some long = by (choose (own_ranks shape views shard)) refl
+  where
+    at : (o : Option ℕ) → choose (own_ranks shape views shard) ≡ o → unwrap_or o 0 < shape.copies → IsOf shape shard (chosen_peer shape views shard)
+    at o is low =
+        let e : chosen_peer shape views shard ≡ peer_of shape shard (unwrap_or o 0) = ap (λ x. peer_of shape shard (unwrap_or x 0)) is in
+        record { from = omega (arith, e); to = omega (arith, e, low) }
+
+    by : (o : Option ℕ) → choose (own_ranks shape views shard) ≡ o → IsOf shape shard (chosen_peer shape views shard)
+    by None is = at None is some
+    by (Some copy) is = at (Some copy) is (let w = chosen_within (own_ranks shape views shard) copy is in let l = own_long shape views shard long in omega (arith, w, l))
 
 -- what was found of the first ranks
 found : (ranks : List (Option Rank)) (i : ℕ) → (best : Option (ℕ × Rank)) × IsSoFar ranks i best

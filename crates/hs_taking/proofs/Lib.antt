@@ -1,16 +1,23 @@
 pub mod CarryLemmas
 pub mod ChoiceLemmas
-pub mod DeltaLemmas
+pub mod ChosenLemmas
 pub mod DiskLemmas
 pub mod EvenLemmas
+mod Examples
 pub mod FirstLemmas
+pub mod GreatestLemmas
 pub mod KeepLemmas
+pub mod LeaveLemmas
 pub mod LevelLemmas
 pub mod LoadLemmas
+pub mod MovedLemmas
 pub mod NameLemmas
 pub mod OpenedLemmas
+pub mod OpeningLemmas
 pub mod PairLemmas
 pub mod PastLemmas
+pub mod PickLemmas
+pub mod RankLemmas
 pub mod ReadLemmas
 pub mod RunLemmas
 pub mod ShardLemmas

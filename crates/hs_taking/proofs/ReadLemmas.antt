@@ -5,7 +5,6 @@ use Rattle.std.proofs.lemmas.Bool.Decides.{eqb_tells}
 use Rattle.std.specs.Option.{option_map}
 use Rattle.std.specs.Prelude.{IfSome, slice_index_or}
 use Rattle.hs_entry.specs.Entries.{rank_of}
-use Rattle.hs_entry.specs.declared.rank.Rank.{Rank}
 use Rattle.hs_fold.specs.Shards.Setting.{Numbered, Setting}
 use Rattle.hs_limits.specs.declared.shape.Shape.{Shape}
 use Rattle.hs_limits.specs.Shape.{peer_of}
@@ -27,15 +26,18 @@ use Rattle.hs_taking.proofs.FirstLemmas.{is_first}
 use Rattle.hs_taking.proofs.KeepLemmas.{keeps_read, keeps_then}
 use Rattle.hs_taking.proofs.LevelLemmas.{still_same}
 use Rattle.hs_taking.proofs.PastLemmas.{past_all, past_then}
-use Rattle.hs_taking.proofs.RunLemmas.{chosen_peer, log_slot, view_slot}
+use Rattle.hs_taking.proofs.MovedLemmas.{taken_moved}
+use Rattle.hs_taking.proofs.OpeningLemmas.{leaves_all}
+use Rattle.hs_taking.proofs.PickLemmas.{picked, picked_none, picked_own, picked_ranked, picked_some}
+use Rattle.hs_taking.proofs.RunLemmas.{log_slot, view_slot, views_stand}
 use Rattle.hs_taking.proofs.ShardLemmas.{still_keeps}
-use Rattle.hs_taking.proofs.TakeLemmas.{pick, pick_rank, pick_told}
+use Rattle.hs_taking.proofs.TakeLemmas.{pick, pick_told}
 use Rattle.hs_taking.specs.Copies.{HasShard, IsCopy, IsFirst, IsOf, IsOwnOrFront, KeepsCopy, begun_list, is_kept}
 use Rattle.hs_taking.specs.declared.shares.Share.{Share}
 use Rattle.hs_taking.specs.declared.slot.Slot.{Slot}
 use Rattle.hs_taking.specs.declared.slot.Slot.TheVariants.{Aside, Viewed, Equal, Kept}
 use Rattle.hs_taking.specs.Disks.{DiskSeen, log_at, seen_at}
-use Rattle.hs_taking.specs.Evens.{IsEvened, IsEvenedAs, IsTaken, TakesFrom, TakesNone, TakesView, has_kept, log_of, slot_of}
+use Rattle.hs_taking.specs.Evens.{HaveMoved, IsEvened, IsEvenedAs, IsTaken, TakesFrom, TakesNone, TakesView, chosen_peer, has_kept, log_of, slot_of}
 use Rattle.hs_taking.specs.Pairs.{IsStill}
 use Rattle.hs_taking.specs.Shares.{KeepsDisk, Span, Taken, share_at}
 use Rattle.hs_taking.specs.Slots.{slot_at}
@@ -256,50 +258,23 @@ module _ (tells : Type 0) (set : Setting) (before mid now : ℕ) (old via new : 
   abbrev whole : Span
   whole = record { before = before; now = now; old = old; new = new }
 
-  -- what the disk of a peer was read as, or a list of its rank
-  pub picked : ℕ → Option Numbered
-  picked peer = option_map (λ view. pick (list_in (seen_at via peer).stands.seen) view.rank) (slice_index_or views peer None)
-
   -- of the taken log the list that was applied
   pub with_taken : ℕ → Option Numbered → Bool → ℕ → Option Numbered
-  with_taken from log lost peer = cond (peer == from) log (put_out (log_of (slot_at slots peer)) lost (picked peer))
+  with_taken from log lost peer = cond (peer == from) log (put_out (log_of (slot_at slots peer)) lost (picked via views peer))
 
   with_here : (from : ℕ) (log : Option Numbered) (lost : Bool) → with_taken from log lost from ≡ log
   unfolding with_taken
   with_here from log lost = elim (eqb_tells from from) [
-    | inl same ↦ ap (λ b. cond b log (put_out (log_of (slot_at slots from)) lost (picked from))) same.0
+    | inl same ↦ ap (λ b. cond b log (put_out (log_of (slot_at slots from)) lost (picked via views from))) same.0
     | inr differs ↦ absurd (differs.1 refl)
   ]
 
-  with_there : (from : ℕ) (log : Option Numbered) (lost : Bool) (peer : ℕ) → peer ≢ from → with_taken from log lost peer ≡ put_out (log_of (slot_at slots peer)) lost (picked peer)
+  with_there : (from : ℕ) (log : Option Numbered) (lost : Bool) (peer : ℕ) → peer ≢ from → with_taken from log lost peer ≡ put_out (log_of (slot_at slots peer)) lost (picked via views peer)
   unfolding with_taken
   with_there from log lost peer differs = elim (eqb_tells peer from) [
     | inl same ↦ absurd (differs same.1)
-    | inr not ↦ ap (λ b. cond b log (put_out (log_of (slot_at slots peer)) lost (picked peer))) not.0
+    | inr not ↦ ap (λ b. cond b log (put_out (log_of (slot_at slots peer)) lost (picked via views peer))) not.0
   ]
-
-  ranked_by : (peer : ℕ) (view : Option Viewing) (list : Numbered) → option_map (λ v. pick (list_in (seen_at via peer).stands.seen) v.rank) view ≡ Some list → option_map (λ v. v.rank) view ≡ Some (rank_of list)
-  ranked_by peer None list e = cc e
-  ranked_by peer (Some view) list e = ap (λ r. Some r) (sym (pick_rank (list_in (seen_at via peer).stands.seen) view.rank) ∙ ap rank_of (some_list (pick (list_in (seen_at via peer).stands.seen) view.rank) list e))
-    where
-      some_list : (x y : Numbered) → Some x ≡ Some y → x ≡ y
-      some_list x y e = cc e
-
-  picked_ranked : (peer : ℕ) (list : Numbered) → picked peer ≡ Some list → option_map (λ v. v.rank) (slice_index_or views peer None) ≡ Some (rank_of list)
-  unfolding picked
-  picked_ranked peer list e = ranked_by peer (slice_index_or views peer None) list e
-
-  picked_own : (peer : ℕ) (rank : Rank) → option_map (λ v. v.rank) (slice_index_or views peer None) ≡ Some rank → is_some (picked peer) ≡ true
-  unfolding picked
-  picked_own peer rank e = by (slice_index_or views peer None) e
-    where
-      by : (view : Option Viewing) → option_map (λ v. v.rank) view ≡ Some rank → is_some (option_map (λ v. pick (list_in (seen_at via peer).stands.seen) v.rank) view) ≡ true
-      by None e = cc e
-      by (Some view) e = refl
-
-  picked_none : (peer : ℕ) → slice_index_or views peer None ≡ None → picked peer ≡ None
-  unfolding picked
-  picked_none peer is = ap (λ (o : Option Viewing). option_map (λ v. pick (list_in (seen_at via peer).stands.seen) v.rank) o) is
 
   log_is : (peer : ℕ) → log_at taken.logs peer ≡ log_of (slot_at slots peer)
   log_is peer = ap (λ ls. log_at ls peer) logs_are ∙ log_slot slots peer
@@ -318,18 +293,18 @@ module _ (tells : Type 0) (set : Setting) (before mid now : ℕ) (old via new : 
     keeps_still : (peer : ℕ) → IsStill tells (seen_at via peer) (seen_at new peer) → KeepsDisk tells mid now (seen_at via peer) (seen_at new peer)
     keeps_still peer still = still_keeps tells mid now (seen_at via peer) (seen_at new peer) on (since peer) still
 
-    unseen : (peer : ℕ) → peer < total → slice_index_or views peer None ≡ None → slot_at slots peer ≡ Aside → IsStill tells (seen_at via peer) (seen_at new peer) → Copy peer (picked peer)
+    unseen : (peer : ℕ) → peer < total → slice_index_or views peer None ≡ None → slot_at slots peer ≡ Aside → IsStill tells (seen_at via peer) (seen_at new peer) → Copy peer (picked via views peer)
     unfolding picked
-    unseen peer low none aside still = copy_at peer (picked peer)
+    unseen peer low none aside still = copy_at peer (picked via views peer)
         (subst (λ (o : Option Viewing). IsCopy tells before now (seen_at old peer) (seen_at new peer) (option_map (λ v. pick (list_in (seen_at via peer).stands.seen) v.rank) o) list (log_of (slot_at slots peer)) (is_some lost)) (sym none)
         (none_copy tells set.shape peer before mid now (seen_at old peer) (seen_at via peer) (seen_at new peer) list lost (read peer low) (slot_at slots peer) aside ((viewed peer low).none none) (keeps_still peer still)))
 
     evened_by : (P : Numbered → Type 0) (peer : ℕ) → peer < total → (tells → P list) → (view : Option Viewing) → slice_index_or views peer None ≡ view → IsViewed tells set.shape peer (seen_at old peer) (seen_at via peer) view → IfSome view (IsViewOf tells set.shape peer (seen_at via peer))
-        → IsEvenedAs tells mid now (seen_at via peer) (seen_at new peer) P (slot_of view) (slot_at slots peer) lost → Copy peer (put_out (log_of (slot_at slots peer)) (is_some lost) (picked peer))
+        → IsEvenedAs tells mid now (seen_at via peer) (seen_at new peer) P (slot_of view) (slot_at slots peer) lost → Copy peer (put_out (log_of (slot_at slots peer)) (is_some lost) (picked via views peer))
     unfolding picked
     evened_by P peer low has None is seen stands e =
-        subst (λ o. Copy peer o) (picked_none peer is ∙ sym (put_none (log_of (slot_at slots peer)) (is_some lost)) ∙ ap (λ o. put_out (log_of (slot_at slots peer)) (is_some lost) o) (sym (picked_none peer is))) (unseen peer low is e.0 e.1)
-    evened_by P peer low has (Some view) is seen stands e = copy_at peer (put_out (log_of (slot_at slots peer)) (is_some lost) (picked peer))
+        subst (λ o. Copy peer o) (picked_none via views peer is ∙ sym (put_none (log_of (slot_at slots peer)) (is_some lost)) ∙ ap (λ o. put_out (log_of (slot_at slots peer)) (is_some lost) o) (sym (picked_none via views peer is))) (unseen peer low is e.0 e.1)
+    evened_by P peer low has (Some view) is seen stands e = copy_at peer (put_out (log_of (slot_at slots peer)) (is_some lost) (picked via views peer))
         (subst (λ (o : Option Viewing). IsCopy tells before now (seen_at old peer) (seen_at new peer) (put_out (log_of (slot_at slots peer)) (is_some lost) (option_map (λ v. pick (list_in (seen_at via peer).stands.seen) v.rank) o)) list (log_of (slot_at slots peer)) (is_some lost)) (sym is)
         (evened_copy tells set.shape peer before mid now (seen_at old peer) (seen_at via peer) (seen_at new peer) list lost (read peer low) view seen.some (pick (list_in (seen_at via peer).stands.seen) view.rank) (pick_told tells set.shape peer (seen_at via peer) view stands) P (slot_at slots peer) has e))
 
@@ -348,18 +323,16 @@ module _ (tells : Type 0) (set : Setting) (before mid now : ℕ) (old via new : 
     view_of_slot : (peer : ℕ) (view : Option Viewing) → slice_index_or views peer None ≡ view → slot_at (map slot_of views) peer ≡ slot_of view
     view_of_slot peer view is = view_slot views peer ∙ ap (λ v. slot_of v) is
 
-    picked_some : (peer : ℕ) (view : Viewing) → slice_index_or views peer None ≡ Some view → is_some (picked peer) ≡ true
-    unfolding picked
-    picked_some peer view is = ap (λ (o : Option Viewing). is_some (option_map (λ v. pick (list_in (seen_at via peer).stands.seen) v.rank) o)) is
-
     -- no peer has a view
-    none_shard : slice_index_or views from None ≡ None → TakesNone (apply_all set.name (empty_catalogue set.shape shard)) set.shape shard from via new (map slot_of views) slots share → HasShard tells set whole taken shard
-    none_shard is t = record {
-      logs = picked;
+    none_shard : slice_index_or views from None ≡ None → HaveMoved tells set.shape shard from mid now via new (map slot_of views) → TakesNone (apply_all set.name (empty_catalogue set.shape shard)) set.shape shard from via new (map slot_of views) slots share
+        → HasShard tells set whole taken shard
+    none_shard is moved t = record {
+      logs = picked via views;
       first = first;
       blank = λ list has zeros. absurd (never_list list (sym none ∙ has));
-      each = λ peer of. unseen from share.lost (unwrap_or (picked from) []) peer (within peer of) (unseen_all peer of (slice_index_or views peer None) refl) (aside peer of) (still peer of);
+      each = λ peer of. unseen from share.lost (unwrap_or (picked via views from) []) peer (within peer of) (unseen_all peer of (slice_index_or views peer None) refl) (aside peer of) (still peer of);
       disk = keeps_from tells set.shape from before mid now (seen_at old from) (seen_at via from) (seen_at new from) [] None (read from (within from home)) (keeps_still from share.lost [] from (still from home));
+      leaves = leaves_all tells set.shape before mid now old via new views total on read stand since (picked via views) shard from within home (λ peer view of some. absurd (none_view view (sym (unseen_all peer of (slice_index_or views peer None) refl) ∙ some))) moved;
       shard_is = numbered;
       took = t.took ∙ ap (λ (o : Option Numbered). option_map (λ list. (rank_of list).number) o) (sym none);
       lost = ap (λ (o : Option ℕ). is_some o) t.lost ∙ sym (ap (λ (o : Option ℕ). is_some o && not (is_some (log_at taken.logs from))) t.took);
@@ -367,18 +340,21 @@ module _ (tells : Type 0) (set : Setting) (before mid now : ℕ) (old via new : 
       rank = t.rank ∙ ap (λ l. rank_of l) begun;
     }
       where
-        none : picked from ≡ None
-        none = picked_none from is
+        none_view : (view : Viewing) → None ≡ Some view → ⊥
+        none_view view e = cc e
 
-        first : IsFirst set.shape picked shard from
-        first = is_first set.shape views shard from picked chosen home long (λ other of list e. picked_ranked other list e) (picked_own from)
+        none : picked via views from ≡ None
+        none = picked_none via views from is
 
-        begun : [] ≡ begun_list set.shape taken (picked from) shard
+        first : IsFirst set.shape (picked via views) shard from
+        first = is_first set.shape views shard from (picked via views) chosen home long (λ other of list e. picked_ranked via views other list e) (picked_own via views from)
+
+        begun : [] ≡ begun_list set.shape taken (picked via views from) shard
         begun = same_if (is_kept set.shape taken.logs shard) ∙ ap (λ (o : Option Numbered). if is_kept set.shape taken.logs shard then unwrap_or o [] else []) (sym none)
 
         unseen_all : (peer : ℕ) → IsOf set.shape shard peer → (view : Option Viewing) → slice_index_or views peer None ≡ view → slice_index_or views peer None ≡ None
         unseen_all peer of None e = e
-        unseen_all peer of (Some view) e = absurd (not_some (sym (ap (λ (o : Option Numbered). is_some o) none) ∙ first.some peer of (picked_some peer view e)))
+        unseen_all peer of (Some view) e = absurd (not_some (sym (ap (λ (o : Option Numbered). is_some o) none) ∙ first.some peer of (picked_some via views peer view e)))
 
         aside : (peer : ℕ) → IsOf set.shape shard peer → slot_at slots peer ≡ Aside
         aside peer of = elim (cases_eq peer from) [
@@ -390,13 +366,14 @@ module _ (tells : Type 0) (set : Setting) (before mid now : ℕ) (old via new : 
         still peer of = still_same tells (seen_at via peer) (seen_at new peer) (t.disks peer of)
 
     -- the view of the taken log
-    some_shard : (view : Viewing) → slice_index_or views from None ≡ Some view → TakesView tells (apply_all set.name (empty_catalogue set.shape shard)) set.shape shard from mid now via new (map slot_of views) slots view share → HasShard tells set whole taken shard
-    some_shard view is t = record {
+    some_shard : (view : Viewing) → slice_index_or views from None ≡ Some view → HaveMoved tells set.shape shard from mid now via new (map slot_of views) → TakesView tells (apply_all set.name (empty_catalogue set.shape shard)) set.shape shard from mid now via new (map slot_of views) slots view share → HasShard tells set whole taken shard
+    some_shard view is moved t = record {
       logs = logs;
       blank = λ list has zeros. let e : t.log ≡ list = one_list t.log list (sym here ∙ has) in sym e ∙ t.blank (ap (λ (l : Numbered). rank_of l) e ∙ zeros);
       first = is_first set.shape views shard from logs chosen home long ranked (λ rank e. ap (λ (o : Option Numbered). is_some o) here);
       each = each;
       disk = keeps_from tells set.shape from before mid now (seen_at old from) (seen_at via from) (seen_at new from) [] None (read from (within from home)) t.copies.disk;
+      leaves = leaves_all tells set.shape before mid now old via new views total on read stand since logs shard from within home (λ peer view of some told. told_list told) moved;
       shard_is = numbered;
       took = t.took ∙ ap (λ (o : Option Numbered). option_map (λ list. (rank_of list).number) o) (sym here);
       lost = lost_is (slot_at slots from) share.lost t.copies.taken ∙ ap (λ (o : Option Keeping). true && not (is_some o)) (sym (log_is from)) ∙ ap (λ (o : Option ℕ). is_some o && not (is_some (log_at taken.logs from))) (sym t.took);
@@ -421,7 +398,7 @@ module _ (tells : Type 0) (set : Setting) (before mid now : ℕ) (old via new : 
           | inl same ↦
               let mine : t.log ≡ list = some_list t.log list (sym here ∙ ap (λ p. logs p) (sym same) ∙ e) in
               ap (λ p. option_map (λ (v : Viewing). v.rank) (slice_index_or views p None)) same ∙ ap (λ (o : Option Viewing). option_map (λ v. v.rank) o) is ∙ ap (λ r. Some r) (sym t.ranked ∙ ap rank_of mine)
-          | inr differs ↦ picked_ranked other list (put_some (log_of (slot_at slots other)) (is_some share.lost) (picked other) list (sym (with_there from (Some t.log) (is_some share.lost) other differs) ∙ e))
+          | inr differs ↦ picked_ranked via views other list (put_some (log_of (slot_at slots other)) (is_some share.lost) (picked via views other) list (sym (with_there from (Some t.log) (is_some share.lost) other differs) ∙ e))
         ]
 
         begun : (if has_kept set.shape slots shard then t.log else []) ≡ begun_list set.shape taken (logs from) shard
@@ -459,6 +436,9 @@ module _ (tells : Type 0) (set : Setting) (before mid now : ℕ) (old via new : 
     pub shard_read : TakesFrom tells (apply_all set.name (empty_catalogue set.shape shard)) set.shape shard from mid now via new (map slot_of views) slots share (slot_at (map slot_of views) from) → HasShard tells set whole taken shard
     shard_read t = by (slice_index_or views from None) refl
       where
+        moved : HaveMoved tells set.shape shard from mid now via new (map slot_of views)
+        moved = taken_moved tells (apply_all set.name (empty_catalogue set.shape shard)) set.shape shard from mid now via new (map slot_of views) slots share on home since (λ peer of. views_stand tells set.shape peer (seen_at via peer) views (stand peer (within peer of))) (slot_at (map slot_of views) from) refl t
+
         by : (view : Option Viewing) → slice_index_or views from None ≡ view → HasShard tells set whole taken shard
-        by None is = none_shard is (subst (λ (s : Slot). TakesFrom tells (apply_all set.name (empty_catalogue set.shape shard)) set.shape shard from mid now via new (map slot_of views) slots share s) (view_of_slot from None is) t)
-        by (Some view) is = some_shard view is (subst (λ (s : Slot). TakesFrom tells (apply_all set.name (empty_catalogue set.shape shard)) set.shape shard from mid now via new (map slot_of views) slots share s) (view_of_slot from (Some view) is) t)
+        by None is = none_shard is moved (subst (λ (s : Slot). TakesFrom tells (apply_all set.name (empty_catalogue set.shape shard)) set.shape shard from mid now via new (map slot_of views) slots share s) (view_of_slot from None is) t)
+        by (Some view) is = some_shard view is moved (subst (λ (s : Slot). TakesFrom tells (apply_all set.name (empty_catalogue set.shape shard)) set.shape shard from mid now via new (map slot_of views) slots share s) (view_of_slot from (Some view) is) t)

@@ -1,5 +1,5 @@
 -- The logs of one shard after another.
-use Rattle.std.proofs.Common.{◌≡◌, ◌∙◌, ◌⊎◌, ap, sym, subst, inl, inr, ℕ, zero, suc, ◌+◌, ◌*◌, ◌<◌, ◌≤◌, List, [], ◌∷◌, ◌++◌, length, map, Option, Some, None, refl, arith, Contains, drop, take, unwrap_or}
+use Rattle.std.proofs.Common.{◌≡◌, ◌∙◌, ◌⊎◌, ap, sym, subst, inl, inr, ℕ, zero, suc, ◌+◌, ◌*◌, ◌<◌, ◌≤◌, List, [], ◌∷◌, ◌++◌, length, map, Option, Some, None, refl, arith, Contains}
 use Rattle.std.proofs.lemmas.Bool.{cases_eq, cases_lt}
 use Rattle.std.proofs.lemmas.Grind.{flat_map-append}
 use Rattle.std.proofs.lemmas.List.{append-nil, get_or_push}
@@ -8,9 +8,8 @@ use Rattle.std.proofs.lemmas.List.Quantifiers.{all_pairs_push}
 use Rattle.std.proofs.Math.ListN.{get_or-append}
 use Rattle.std.proofs.Math.Nat.{mul-le-mul_right, suc-mul}
 use Rattle.std.specs.List.{AllPairs}
-use Rattle.std.specs.Option.{option_map, option_map_or}
+use Rattle.std.specs.Option.{option_map_or}
 use Rattle.std.specs.Prelude.{IfSome, flat_map, slice_index_or}
-use Rattle.hs_coldstart.specs.Choose.{choose}
 use Rattle.hs_fold.specs.Shards.Setting.{Numbered, Setting}
 use Rattle.hs_limits.specs.declared.shape.Shape.{Shape}
 use Rattle.hs_limits.specs.Shape.{peer_of}
@@ -28,7 +27,7 @@ use Rattle.hs_taking.specs.declared.shares.Share.{Share}
 use Rattle.hs_taking.specs.declared.slot.Slot.{Slot}
 use Rattle.hs_taking.specs.declared.slot.Slot.TheVariants.{Aside, Viewed, Equal, Kept}
 use Rattle.hs_taking.specs.Disks.{AreReady, DiskSeen, log_at, seen_at}
-use Rattle.hs_taking.specs.Evens.{AreMoved, IsEvenedAs, IsFresh, IsMovedAs, IsTaken, TakesAll, TakesFrom, TakesShard, log_of, slot_of}
+use Rattle.hs_taking.specs.Evens.{AreMoved, IsEvenedAs, IsFresh, IsMovedAs, IsTaken, TakesAll, TakesFrom, TakesShard, chosen_peer, log_of, slot_of}
 use Rattle.hs_taking.specs.Shares.{IsLater, KeepsDisk, lost_of, no_share}
 use Rattle.hs_taking.specs.Slots.{IsSlot, slot_at}
 use Rattle.hs_taking.specs.Viewed.{IsViewOf}
@@ -76,10 +75,6 @@ of_below shape shard next peer less of =
     let d : suc shard * shape.copies ≡ shard * shape.copies + shape.copies = suc-mul shard shape.copies in
     let t = of.to in
     omega (arith, m, d, t)
-
--- the peer whose log is taken
-abbrev pub chosen_peer : Shape → List (Option Viewing) → ℕ → ℕ
-chosen_peer shape views shard = peer_of shape shard (unwrap_or (choose (take shape.copies (drop (peer_of shape shard 0) (map (λ view. option_map (λ v. v.rank) view) views)))) 0)
 
 -- ---- the first shards
 

@@ -28,6 +28,9 @@ viewed_is (Viewed other) view e = ap (λ v. Viewed v) (same other view e)
 viewed_is (Equal other) view e = cc e
 viewed_is (Kept log) view e = cc e
 
+pub none_viewed : (view : Viewing) → None ≡ Some view → ⊥
+none_viewed view e = cc e
+
 pub aside_is : (slot : Slot) → IsFresh slot → viewed_of slot ≡ None → slot ≡ Aside
 aside_is Aside fresh e = refl
 aside_is (Viewed view) fresh e = cc e

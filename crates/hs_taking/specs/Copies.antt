@@ -8,7 +8,7 @@ use Rattle.hs_fold.specs.Shards.Setting.{Numbered, Setting}
 use Rattle.hs_limits.specs.declared.shape.Shape.{Shape}
 use Rattle.hs_limits.specs.Shape.{peer_of}
 use Rattle.hs_memory.specs.Forget.{apply_all}
-use Rattle.hs_peerlog.specs.Images.{IsAny, LeavesEach, LeavesOnly}
+use Rattle.hs_peerlog.specs.Images.{IsAny, LeavesAny, LeavesEach, LeavesOnly}
 use Rattle.hs_peerlog.specs.Lists.{HasLog, IsKept, Keeping}
 use Rattle.hs_ports.specs.Fault.{HasRisen}
 use Rattle.hs_shard.specs.Facts.{empty_catalogue}
@@ -47,6 +47,15 @@ pub record KeepsCopy (tells : Type 0) (before now : ℕ) (old new : DiskSeen) (t
   pub past : tells → old.stands.last ≤ before → PastStays before now old.stands new.stands
   pub counted : old.faults ≤ new.faults
 
+-- from the moment before to now the disk of a peer had calls that leave at each moment lists of which this holds, whatever lists it could leave before
+abbrev pub LeavesBy : Type 0 → ℕ → ℕ → DiskSeen → DiskSeen → ((ℕ → Numbered) → Numbered → Type 0) → Type 0
+LeavesBy tells before now old new P =
+    tells → old.stands.last ≤ before → (had : ℕ → Numbered) → LeavesAny old.stands had → LeavesEach before now old.stands new.stands (P had)
+
+-- one of the lists that it could leave before, or a front of the taken one
+abbrev pub IsHadOrFront : Numbered → (ℕ → Numbered) → Numbered → Type 0
+IsHadOrFront taken had list = IsAny had list ⊎ IsAny (fronts taken) list
+
 -- of a peer whose shard has this taken list; lost: whether the disk of the taken log failed
 -- read: its log is what its disk reads as, or the disk failed and counts as having none
 -- aside: why it has no log in use: it had none, or its disk failed, or it was not found or made equal before the taken log was lost
@@ -66,6 +75,12 @@ pub record IsCopy (tells : Type 0) (before now : ℕ) (old new : DiskSeen) (log 
 
 -- ---- a shard
 
+-- of a shard whose disks were read as these logs, and that takes this peer's: at each moment its disk leaves no list but those that it could leave before, and each other one those, or a front of the taken list; what is past of each stays
+pub record LeavesWhileOpening (tells : Type 0) (shape : Shape) (span : Span) (logs : ℕ → Option Numbered) (shard from : ℕ) : Type 0 where
+  pub taken : LeavesBy tells span.before span.now (seen_at span.old from) (seen_at span.new from) IsAny
+  pub others : (peer : ℕ) → IsOf shape shard peer → LeavesBy tells span.before span.now (seen_at span.old peer) (seen_at span.new peer) (IsHadOrFront (unwrap_or (logs from) []))
+  pub past : (peer : ℕ) → IsOf shape shard peer → tells → (seen_at span.old peer).stands.last ≤ span.before → PastStays span.before span.now (seen_at span.old peer).stands (seen_at span.new peer).stands
+
 -- whether the log of one of its peers is in use
 abbrev pub is_kept : Shape → List (Option Keeping) → ℕ → Bool
 is_kept shape logs shard = list_any (λ peer. is_some (log_at logs peer)) (range_with_len (peer_of shape shard 0) shape.copies)
@@ -84,6 +99,8 @@ pub record HasShard (tells : Type 0) (set : Setting) (span : Span) (taken : Take
       → IsCopy tells span.before span.now (seen_at span.old peer) (seen_at span.new peer) (logs peer) (unwrap_or (logs (share_at taken shard).peer) []) (log_at taken.logs peer) (is_some (share_at taken shard).lost)
   -- the calls on the disk of the taken log leave its list as it is
   pub disk : KeepsDisk tells span.before span.now (seen_at span.old (share_at taken shard).peer) (seen_at span.new (share_at taken shard).peer)
+  -- at each moment
+  pub leaves : LeavesWhileOpening tells set.shape span logs shard (share_at taken shard).peer
   pub shard_is : (share_at taken shard).shard ≡ shard
   pub took : (share_at taken shard).took ≡ option_map (λ list. (rank_of list).number) (logs (share_at taken shard).peer)
   pub lost : is_some (share_at taken shard).lost ≡ (is_some (share_at taken shard).took && not (is_some (log_at taken.logs (share_at taken shard).peer)))

@@ -80,6 +80,19 @@ pub record AreMoved (tells : Type 0) (shape : Shape) (shard from : ℕ) (before 
   pub disk : KeepsDisk tells before now (seen_at old from) (seen_at new from)
   pub outside : (peer : ℕ) → (IsOf shape shard peer → ⊥) → seen_at new peer ≡ seen_at old peer
 
+-- of the disk of the taken log, by what was kept of it: where it was viewed its list stays, and else it was not written
+abbrev pub IsKeptAs : Type 0 → ℕ → ℕ → DiskSeen → DiskSeen → Slot → Type 0
+IsKeptAs tells before now a a' Aside = IsStill tells a a'
+IsKeptAs tells before now a a' (Viewed view) = KeepsDisk tells before now a a'
+IsKeptAs tells before now a a' (Equal view) = ⊤
+IsKeptAs tells before now a a' (Kept log) = ⊤
+
+-- of the disks of a shard, by what was kept of them before any was called
+pub record HaveMoved (tells : Type 0) (shape : Shape) (shard from : ℕ) (before now : ℕ) (old new : List DiskSeen) (slots : List Slot) : Type 0 where
+  pub each : (peer : ℕ) → IsOf shape shard peer → (peer ≡ from → ⊥)
+      → IsMovedAs tells before now (seen_at old peer) (seen_at new peer) (λ list. list_in (seen_at old from).stands.seen ≡ Some list) (slot_at slots peer)
+  pub own : IsKeptAs tells before now (seen_at old from) (seen_at new from) (slot_at slots from)
+
 -- the taken log was recovered from its view, or is lost now
 abbrev pub IsRecovered : Type 0 → ℕ → ℕ → DiskSeen → DiskSeen → Bool → Source → Type 0
 IsRecovered tells before now a a' lost (source.Kept log) = (lost ≡ false) × IsGoodView tells before a a' log
@@ -138,12 +151,15 @@ pub record TakesShard (tells : Type 0) (fold : Numbered → Catalogue) (shape : 
 
 -- ---- what a store opens with
 
+-- the peer whose log is taken for a shard, from the views of all disks
+abbrev pub chosen_peer : Shape → List (Option Viewing) → ℕ → ℕ
+chosen_peer shape views shard = peer_of shape shard (unwrap_or (choose (take shape.copies (drop (peer_of shape shard 0) (map (λ view. option_map (λ v. v.rank) view) views)))) 0)
+
 -- from the views of its disks: by shard the peer whose rank is chosen, and what was taken of it
 pub record TakesAll (tells : Type 0) (set : Setting) (before now : ℕ) (old new : List DiskSeen) (views : List (Option Viewing)) (taken : Taken) : Type 0 where
   pub slots : List Slot
   pub logs : taken.logs ≡ map log_of slots
-  pub chosen : (shard : ℕ) → shard < length taken.shares
-      → (share_at taken shard).peer ≡ peer_of set.shape shard (unwrap_or (choose (take set.shape.copies (drop (peer_of set.shape shard 0) (map (λ view. option_map (λ v. v.rank) view) views)))) 0)
+  pub chosen : (shard : ℕ) → shard < length taken.shares → (share_at taken shard).peer ≡ chosen_peer set.shape views shard
   pub numbered : (shard : ℕ) → shard < length taken.shares → (share_at taken shard).shard ≡ shard
   pub home : (shard : ℕ) → shard < length taken.shares → IsOf set.shape shard (share_at taken shard).peer
   pub each : (shard : ℕ) → shard < length taken.shares

@@ -1,8 +1,8 @@
-pub mod Ascending
 pub mod Copies
 pub mod Disks
 pub mod Evens
 pub mod Loaded
+pub mod Opening
 pub mod Pairs
 pub mod Past
 pub mod Shares

@@ -16,11 +16,11 @@ ghost use Rattle.hs_taking.specs.Pairs.{HasEmptied, HasFilled, HasMadeEqual, IsP
 ghost use Rattle.hs_taking.specs.Past.{PastStays};
 
 use crate::pair::{PairFault, other_fault, taken_fault};
-use crate::readable::is_readable;
 use hs_entry::Entry;
 use hs_limits::Shape;
 use hs_peerlog::{LogFault, PeerLog, PeerView};
 use hs_ports::{Disk, Watch};
+use hs_readable::is_readable;
 
 /// The log of a peer, which was emptied and has the entries of the taken log, whose disk is at the
 /// place `from`.

@@ -2,6 +2,7 @@
 #![tactic(auto)]
 
 mod choosing;
+mod chosen;
 mod comparing;
 mod copies;
 mod evening;
@@ -9,7 +10,6 @@ mod fault;
 mod leveling;
 mod loading;
 mod pair;
-mod readable;
 mod shares;
 mod slot;
 mod store;
@@ -17,6 +17,7 @@ mod taking;
 mod viewing;
 
 pub use choosing::{ranks_of, taken_peer};
+pub use chosen::the_taken_list_stays_chosen;
 pub use fault::TakeFault;
 pub use loading::{Loaded, load};
 pub use shares::{Share, Taking};

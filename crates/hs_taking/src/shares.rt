@@ -4,7 +4,7 @@ ghost use Rattle.hs_limits.specs.Shape.{IsShape};
 ghost use Rattle.hs_shard.specs.Facts.{empty_catalogue};
 ghost use Rattle.hs_taking.specs.declared.fault.TakeFault.TheVariants.{NoMemory};
 ghost use Rattle.hs_taking.specs.Disks.{AreReady, seen_as, seen_at};
-ghost use Rattle.hs_taking.specs.Evens.{TakesAll, log_of, slot_of};
+ghost use Rattle.hs_taking.specs.Evens.{HaveMoved, TakesAll, chosen_peer, log_of, slot_of};
 ghost use Rattle.hs_taking.specs.Shares.{KeepsDisk};
 ghost use Rattle.hs_taking.specs.Viewed.{IsViewOf};
 
@@ -80,6 +80,11 @@ pub(crate) fn take_all<A: Addresser, D: Disk>(
         peer)
         (seen_at (map (λ disk. seen_as (D.size disk) (D.stands disk) (D.faults disk)) disks.new)
         peer) }
+    ensures moved { (shard : ℕ) → shard < shape.shards → HaveMoved D.tells shape shard
+        (chosen_peer shape views.items shard) watch.old watch.new
+        (map (λ disk. seen_as (D.size disk) (D.stands disk) (D.faults disk)) disks.old)
+        (map (λ disk. seen_as (D.size disk) (D.stands disk) (D.faults disk)) disks.new)
+        (map slot_of views.items) }
     ensures only { IsOkUnless result NoMemory }
     ensures count { length disks.new ≡ length disks.old }
     ensures ticks { watch.old ≤ watch.new }

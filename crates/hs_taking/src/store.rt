@@ -7,6 +7,7 @@ ghost use Rattle.hs_ports.specs.Fault.{HasRisen};
 ghost use Rattle.hs_side.specs.declared.header.Header.{Header};
 ghost use Rattle.hs_taking.specs.Copies.{HasEvened};
 ghost use Rattle.hs_taking.specs.Disks.{AreReady, seen_as, seen_at};
+ghost use Rattle.hs_taking.specs.Opening.{LeavesShard};
 ghost use Rattle.hs_taking.specs.Shares.{KeepsDisk};
 ghost use Rattle.hs_taking.specs.Spared.{SparesDisks};
 ghost use Rattle.hs_taking.specs.Store.{HasRead};
@@ -89,7 +90,14 @@ pub fn read_store<A: Addresser, D: Disk>(
         peer).faults
         ≤ (seen_at (map (λ disk. seen_as (D.size disk) (D.stands disk) (D.faults disk)) disks.new)
         peer).faults }
-    // Whatever it answers, the list of each disk is as it was, at each moment, and its past stays.
+    // Whatever it answers, what a stop leaves of each shard's disks meanwhile.
+    ensures any_moment { (shard : ℕ) → shard < shape.shards → LeavesShard D.tells shape (record {
+      before = watch.old;
+      now = watch.new;
+      old = map (λ disk. seen_as (D.size disk) (D.stands disk) (D.faults disk)) disks.old;
+      new = map (λ disk. seen_as (D.size disk) (D.stands disk) (D.faults disk)) disks.new;
+    }) shard }
+    // With one copy the list of each disk is as it was, at each moment, and its past stays.
     ensures keeps { shape.copies ≡ 1 → (peer : ℕ) → peer < length disks.old → KeepsDisk D.tells watch.old watch.new
         (seen_at (map (λ disk. seen_as (D.size disk) (D.stands disk) (D.faults disk)) disks.old)
         peer)

@@ -1,5 +1,5 @@
 //! Taking the log of a shard.
-ghost use Rattle.std.specs.Prelude.{◌≡◌, ◌*◌, ◌<◌, ◌≤◌, ℕ, IfOk, IsOkUnless, OnOk, is_some, length, map};
+ghost use Rattle.std.specs.Prelude.{◌≡◌, ◌*◌, ◌<◌, ◌≤◌, ℕ, IfOk, IsOkUnless, None, OnOk, is_some, length, map};
 ghost use Rattle.hs_limits.specs.Shape.{IsShape};
 ghost use Rattle.hs_memory.specs.Forget.{apply_all};
 ghost use Rattle.hs_shard.specs.Facts.{empty_catalogue};
@@ -60,6 +60,7 @@ pub(crate) fn take_shard<A: Addresser, D: Disk>(
         (map (λ disk. seen_as (D.size disk) (D.stands disk) (D.faults disk)) disks.old)
         (map (λ disk. seen_as (D.size disk) (D.stands disk) (D.faults disk)) disks.new)
         slots.old.items }
+    ensures idle { viewed_of (slot_at slots.old.items peer) ≡ None → disks.new ≡ disks.old }
     ensures shard { IfOk result (λ share. share.shard ≡ shard) }
     ensures peer { IfOk result (λ share. share.peer ≡ peer) }
     ensures only { IsOkUnless result NoMemory }

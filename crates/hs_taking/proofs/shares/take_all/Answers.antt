@@ -10,13 +10,15 @@ use Rattle.hs_peerlog.proofs.ImageLemmas.{Since}
 use Rattle.hs_peerlog.specs.Views.{Viewing}
 use Rattle.hs_taking.proofs.ChoiceLemmas.{shard_within}
 use Rattle.hs_taking.proofs.DiskLemmas.{seen_since}
+use Rattle.hs_taking.proofs.FirstLemmas.{chosen_home}
 use Rattle.hs_taking.proofs.KeepLemmas.{keeps_none}
-use Rattle.hs_taking.proofs.RunLemmas.{TakesSome, chosen_peer, counted_since, fresh_views, keeps_since, logs_ready, takes_all, takes_more, takes_none, views_stand}
+use Rattle.hs_taking.proofs.MovedLemmas.{moved_since, some_moved}
+use Rattle.hs_taking.proofs.RunLemmas.{TakesSome, counted_since, fresh_views, keeps_since, logs_ready, takes_all, takes_more, takes_none, views_stand}
 use Rattle.hs_taking.specs.Copies.{IsOf}
 use Rattle.hs_taking.specs.declared.shares.Share.{Share}
 use Rattle.hs_taking.specs.declared.slot.Slot.{Slot}
 use Rattle.hs_taking.specs.Disks.{DiskSeen, seen_as, seen_at}
-use Rattle.hs_taking.specs.Evens.{IsFresh, slot_of}
+use Rattle.hs_taking.specs.Evens.{AreMoved, IsFresh, chosen_peer, slot_of, viewed_of}
 use Rattle.hs_taking.specs.Slots.{IsSlot, slot_at}
 use Rattle.hs_taking.proofs.shares.take_all.Goals as goal
 
@@ -252,3 +254,103 @@ returns-clause-ready g c =
     let since : (peer : ℕ) → g.D.Disk.tells → Since (seen_at old peer).stands = λ peer told. seen_since f (λ disk side m high. g.met.D.Disk.since told disk side m high) c.args.disks.now peer in
     let cur : List DiskSeen = map f c.loop-shard.disks in
     logs_ready g.D.Disk.tells set c.args.watch.now c.loop-shard.watch old cur c.args.views.items c.loop-shard.slots.items c.loop-shard.shares.items c.in_ok-logs.logs.items c.in_ok-logs.ensures c.loop-shard.invariant.taken
+
+pub returns-in_err-ranks-clause-moved : goal.returns-in_err-ranks-clause-moved
+returns-in_err-ranks-clause-moved g c =
+    let f : g.row.D.Denot → DiskSeen = λ disk. seen_as (g.D.Disk.size disk) (g.D.Disk.stands disk) (g.D.Disk.faults disk) in
+    let old : List DiskSeen = map f c.args.disks.now in
+    let set : Setting = record { name = g.A.Addresser.name c.args.naming.now; limits = c.args.limits; shape = c.args.shape } in
+    let views = c.args.views.items in
+    let since : (peer : ℕ) → g.D.Disk.tells → Since (seen_at old peer).stands = λ peer told. seen_since f (λ disk side m high. g.met.D.Disk.since told disk side m high) c.args.disks.now peer in
+    let stand : (peer : ℕ) → peer < c.args.shape.shards * c.args.shape.copies → IsSlot g.D.Disk.tells c.args.shape peer (seen_at old peer) (slot_at (map slot_of views) peer) =
+    λ peer less. views_stand g.D.Disk.tells c.args.shape peer (seen_at old peer) views (c.requires.viewed peer less) in
+    let homes : (k : ℕ) → k < c.args.shape.shards → IsOf c.args.shape k (chosen_peer c.args.shape views k) =
+    λ k low. let w = shard_within c.args.shape k low in let l = c.requires.shape.some_copy in chosen_home c.args.shape views k (omega (arith, l)) (omega (arith, w, c.requires.views)) in
+    some_moved g.D.Disk.tells set c.args.watch.now c.args.watch.now old old views (map slot_of views) [] (omega arith) (takes_none g.D.Disk.tells set c.args.watch.now old views since) since stand homes
+
+pub returns-in_err-slots-clause-moved : goal.returns-in_err-slots-clause-moved
+returns-in_err-slots-clause-moved g c =
+    let f : g.row.D.Denot → DiskSeen = λ disk. seen_as (g.D.Disk.size disk) (g.D.Disk.stands disk) (g.D.Disk.faults disk) in
+    let old : List DiskSeen = map f c.args.disks.now in
+    let set : Setting = record { name = g.A.Addresser.name c.args.naming.now; limits = c.args.limits; shape = c.args.shape } in
+    let views = c.args.views.items in
+    let since : (peer : ℕ) → g.D.Disk.tells → Since (seen_at old peer).stands = λ peer told. seen_since f (λ disk side m high. g.met.D.Disk.since told disk side m high) c.args.disks.now peer in
+    let stand : (peer : ℕ) → peer < c.args.shape.shards * c.args.shape.copies → IsSlot g.D.Disk.tells c.args.shape peer (seen_at old peer) (slot_at (map slot_of views) peer) =
+    λ peer less. views_stand g.D.Disk.tells c.args.shape peer (seen_at old peer) views (c.requires.viewed peer less) in
+    let homes : (k : ℕ) → k < c.args.shape.shards → IsOf c.args.shape k (chosen_peer c.args.shape views k) =
+    λ k low. let w = shard_within c.args.shape k low in let l = c.requires.shape.some_copy in chosen_home c.args.shape views k (omega (arith, l)) (omega (arith, w, c.requires.views)) in
+    some_moved g.D.Disk.tells set c.args.watch.now c.args.watch.now old old views (map slot_of views) [] (omega arith) (takes_none g.D.Disk.tells set c.args.watch.now old views since) since stand homes
+
+pub returns-in-Err-clause-moved : goal.returns-in-Err-clause-moved
+returns-in-Err-clause-moved g c =
+    let f : g.row.D.Denot → DiskSeen = λ disk. seen_as (g.D.Disk.size disk) (g.D.Disk.stands disk) (g.D.Disk.faults disk) in
+    let old : List DiskSeen = map f c.args.disks.now in
+    let set : Setting = record { name = g.A.Addresser.name c.args.naming.now; limits = c.args.limits; shape = c.args.shape } in
+    let views = c.args.views.items in
+    let since : (peer : ℕ) → g.D.Disk.tells → Since (seen_at old peer).stands = λ peer told. seen_since f (λ disk side m high. g.met.D.Disk.since told disk side m high) c.args.disks.now peer in
+    let stand : (peer : ℕ) → peer < c.args.shape.shards * c.args.shape.copies → IsSlot g.D.Disk.tells c.args.shape peer (seen_at old peer) (slot_at (map slot_of views) peer) =
+    λ peer less. views_stand g.D.Disk.tells c.args.shape peer (seen_at old peer) views (c.requires.viewed peer less) in
+    let homes : (k : ℕ) → k < c.args.shape.shards → IsOf c.args.shape k (chosen_peer c.args.shape views k) =
+    λ k low. let w = shard_within c.args.shape k low in let l = c.requires.shape.some_copy in chosen_home c.args.shape views k (omega (arith, l)) (omega (arith, w, c.requires.views)) in
+    let cur : List DiskSeen = map f c.loop-shard.disks in
+    let inv = c.loop-shard.invariant in
+    let shard : ℕ = c.loop-shard.shard in
+    let next : List DiskSeen = map f c.take_shard-share.new.disks in
+    let since_cur : (peer : ℕ) → g.D.Disk.tells → Since (seen_at cur peer).stands = λ peer told. seen_since f (λ disk side m high. g.met.D.Disk.since told disk side m high) c.loop-shard.disks peer in
+    let chosen : c.taken_peer-peer.result ≡ chosen_peer c.args.shape views shard = c.taken_peer-peer.ensures.value
+    ∙ ap (λ rs. peer_of c.args.shape shard (unwrap_or (choose (take c.args.shape.copies (drop (peer_of c.args.shape shard 0) rs))) 0)) (c.as_slice-in-loop-shard.ensures.value ∙ inv.ranks) in
+    moved_since g.D.Disk.tells set c.args.watch.now c.loop-shard.watch old cur views c.loop-shard.slots.items c.loop-shard.shares.items inv.ticks inv.taken since stand homes c.take_shard-share.new.watch shard next c.take_shard-share.ensures.ticks inv.shares c.loop-shard-test.true
+    (subst (λ p. AreMoved g.D.Disk.tells c.args.shape shard p c.loop-shard.watch c.take_shard-share.new.watch cur next c.loop-shard.slots.items) chosen c.take_shard-share.ensures.moved)
+    (λ aside. ap (λ ds. seen_at (map f ds) (chosen_peer c.args.shape views shard)) (c.take_shard-share.ensures.idle (ap (λ p. viewed_of (slot_at c.loop-shard.slots.items p)) chosen ∙ ap (λ (s : Slot). viewed_of s) aside))) since_cur
+
+pub returns-then-is_err-clause-moved : goal.returns-then-is_err-clause-moved
+returns-then-is_err-clause-moved g c =
+    let f : g.row.D.Denot → DiskSeen = λ disk. seen_as (g.D.Disk.size disk) (g.D.Disk.stands disk) (g.D.Disk.faults disk) in
+    let old : List DiskSeen = map f c.args.disks.now in
+    let set : Setting = record { name = g.A.Addresser.name c.args.naming.now; limits = c.args.limits; shape = c.args.shape } in
+    let views = c.args.views.items in
+    let since : (peer : ℕ) → g.D.Disk.tells → Since (seen_at old peer).stands = λ peer told. seen_since f (λ disk side m high. g.met.D.Disk.since told disk side m high) c.args.disks.now peer in
+    let stand : (peer : ℕ) → peer < c.args.shape.shards * c.args.shape.copies → IsSlot g.D.Disk.tells c.args.shape peer (seen_at old peer) (slot_at (map slot_of views) peer) =
+    λ peer less. views_stand g.D.Disk.tells c.args.shape peer (seen_at old peer) views (c.requires.viewed peer less) in
+    let homes : (k : ℕ) → k < c.args.shape.shards → IsOf c.args.shape k (chosen_peer c.args.shape views k) =
+    λ k low. let w = shard_within c.args.shape k low in let l = c.requires.shape.some_copy in chosen_home c.args.shape views k (omega (arith, l)) (omega (arith, w, c.requires.views)) in
+    let cur : List DiskSeen = map f c.loop-shard.disks in
+    let inv = c.loop-shard.invariant in
+    let shard : ℕ = c.loop-shard.shard in
+    let next : List DiskSeen = map f c.take_shard-share.new.disks in
+    let since_cur : (peer : ℕ) → g.D.Disk.tells → Since (seen_at cur peer).stands = λ peer told. seen_since f (λ disk side m high. g.met.D.Disk.since told disk side m high) c.loop-shard.disks peer in
+    let chosen : c.taken_peer-peer.result ≡ chosen_peer c.args.shape views shard = c.taken_peer-peer.ensures.value
+    ∙ ap (λ rs. peer_of c.args.shape shard (unwrap_or (choose (take c.args.shape.copies (drop (peer_of c.args.shape shard 0) rs))) 0)) (c.as_slice-in-loop-shard.ensures.value ∙ inv.ranks) in
+    moved_since g.D.Disk.tells set c.args.watch.now c.loop-shard.watch old cur views c.loop-shard.slots.items c.loop-shard.shares.items inv.ticks inv.taken since stand homes c.take_shard-share.new.watch shard next c.take_shard-share.ensures.ticks inv.shares c.loop-shard-test.true
+    (subst (λ p. AreMoved g.D.Disk.tells c.args.shape shard p c.loop-shard.watch c.take_shard-share.new.watch cur next c.loop-shard.slots.items) chosen c.take_shard-share.ensures.moved)
+    (λ aside. ap (λ ds. seen_at (map f ds) (chosen_peer c.args.shape views shard)) (c.take_shard-share.ensures.idle (ap (λ p. viewed_of (slot_at c.loop-shard.slots.items p)) chosen ∙ ap (λ (s : Slot). viewed_of s) aside))) since_cur
+
+pub returns-in_err-logs-clause-moved : goal.returns-in_err-logs-clause-moved
+returns-in_err-logs-clause-moved g c =
+    let f : g.row.D.Denot → DiskSeen = λ disk. seen_as (g.D.Disk.size disk) (g.D.Disk.stands disk) (g.D.Disk.faults disk) in
+    let old : List DiskSeen = map f c.args.disks.now in
+    let set : Setting = record { name = g.A.Addresser.name c.args.naming.now; limits = c.args.limits; shape = c.args.shape } in
+    let views = c.args.views.items in
+    let since : (peer : ℕ) → g.D.Disk.tells → Since (seen_at old peer).stands = λ peer told. seen_since f (λ disk side m high. g.met.D.Disk.since told disk side m high) c.args.disks.now peer in
+    let stand : (peer : ℕ) → peer < c.args.shape.shards * c.args.shape.copies → IsSlot g.D.Disk.tells c.args.shape peer (seen_at old peer) (slot_at (map slot_of views) peer) =
+    λ peer less. views_stand g.D.Disk.tells c.args.shape peer (seen_at old peer) views (c.requires.viewed peer less) in
+    let homes : (k : ℕ) → k < c.args.shape.shards → IsOf c.args.shape k (chosen_peer c.args.shape views k) =
+    λ k low. let w = shard_within c.args.shape k low in let l = c.requires.shape.some_copy in chosen_home c.args.shape views k (omega (arith, l)) (omega (arith, w, c.requires.views)) in
+    let cur : List DiskSeen = map f c.loop-shard.disks in
+    let inv = c.loop-shard.invariant in
+    some_moved g.D.Disk.tells set c.args.watch.now c.loop-shard.watch old cur views c.loop-shard.slots.items c.loop-shard.shares.items inv.ticks inv.taken since stand homes
+
+pub returns-clause-moved : goal.returns-clause-moved
+returns-clause-moved g c =
+    let f : g.row.D.Denot → DiskSeen = λ disk. seen_as (g.D.Disk.size disk) (g.D.Disk.stands disk) (g.D.Disk.faults disk) in
+    let old : List DiskSeen = map f c.args.disks.now in
+    let set : Setting = record { name = g.A.Addresser.name c.args.naming.now; limits = c.args.limits; shape = c.args.shape } in
+    let views = c.args.views.items in
+    let since : (peer : ℕ) → g.D.Disk.tells → Since (seen_at old peer).stands = λ peer told. seen_since f (λ disk side m high. g.met.D.Disk.since told disk side m high) c.args.disks.now peer in
+    let stand : (peer : ℕ) → peer < c.args.shape.shards * c.args.shape.copies → IsSlot g.D.Disk.tells c.args.shape peer (seen_at old peer) (slot_at (map slot_of views) peer) =
+    λ peer less. views_stand g.D.Disk.tells c.args.shape peer (seen_at old peer) views (c.requires.viewed peer less) in
+    let homes : (k : ℕ) → k < c.args.shape.shards → IsOf c.args.shape k (chosen_peer c.args.shape views k) =
+    λ k low. let w = shard_within c.args.shape k low in let l = c.requires.shape.some_copy in chosen_home c.args.shape views k (omega (arith, l)) (omega (arith, w, c.requires.views)) in
+    let cur : List DiskSeen = map f c.loop-shard.disks in
+    let inv = c.loop-shard.invariant in
+    some_moved g.D.Disk.tells set c.args.watch.now c.loop-shard.watch old cur views c.loop-shard.slots.items c.loop-shard.shares.items inv.ticks inv.taken since stand homes

@@ -3,8 +3,11 @@ use Rattle.std.proofs.lemmas.Grind.{common_steps}
 use Rattle.std.specs.Prelude.{slice_index_or}
 use Rattle.hs_fold.specs.Shards.Setting.{Setting}
 use Rattle.hs_peerlog.proofs.ImageLemmas.{Since}
+use Rattle.hs_taking.proofs.ChoiceLemmas.{shard_within}
 use Rattle.hs_taking.proofs.DiskLemmas.{seen_count, seen_since}
+use Rattle.hs_taking.proofs.FirstLemmas.{chosen_home}
 use Rattle.hs_taking.proofs.KeepLemmas.{keeps_read, keeps_then}
+use Rattle.hs_taking.proofs.OpeningLemmas.{leaves_moved_shard, leaves_read_shard}
 use Rattle.hs_taking.proofs.StoreLemmas.{no_other, no_wrong, opened_ok, other_rose, read_ok, spares_read, spares_taken}
 use Rattle.hs_taking.proofs.ViewLemmas.{view_of}
 use Rattle.hs_taking.specs.Disks.{DiskSeen, seen_as, seen_at}
@@ -94,3 +97,29 @@ returns-clause-keeps g c =
     keeps_then g.D.Disk.tells c.args.watch.now c.view_all.new.watch c.take_all.new.watch (seen_at (map f c.args.disks.now) peer) (seen_at (map f c.view_all.new.disks) peer) (seen_at (map f c.take_all.new.disks) peer)
     (keeps_read g.D.Disk.tells c.args.watch.now c.view_all.new.watch (seen_at (map f c.args.disks.now) peer) (seen_at (map f c.view_all.new.disks) peer) (c.view_all.ensures.read peer low))
     (c.take_all.ensures.keeps one peer (omega (arith, low, same)))
+
+pub returns-in-Err-clause-any_moment : goal.returns-in-Err-clause-any_moment
+returns-in-Err-clause-any_moment g c =
+    let f : g.row.D.Denot → DiskSeen = λ disk. seen_as (g.D.Disk.size disk) (g.D.Disk.stands disk) (g.D.Disk.faults disk) in
+    let span : Span = record { before = c.args.watch.now; now = c.view_all.new.watch; old = map f c.args.disks.now; new = map f c.view_all.new.disks } in
+    λ shard low. leaves_read_shard g.D.Disk.tells c.args.shape span shard (let l = c.requires.shape.some_copy in omega (arith, l))
+    (λ peer of. let w = shard_within c.args.shape shard low in let t = of.to in c.view_all.ensures.read peer (omega (arith, w, t, c.requires.count)))
+
+pub returns-clause-any_moment : goal.returns-clause-any_moment
+returns-clause-any_moment g c =
+    let f : g.row.D.Denot → DiskSeen = λ disk. seen_as (g.D.Disk.size disk) (g.D.Disk.stands disk) (g.D.Disk.faults disk) in
+    let old : List DiskSeen = map f c.args.disks.now in
+    let via : List DiskSeen = map f c.view_all.new.disks in
+    let new : List DiskSeen = map f c.take_all.new.disks in
+    let views = c.in-Ok.views.items in
+    let total : ℕ = c.args.shape.shards * c.args.shape.copies in
+    let within : (peer : ℕ) → peer < total → peer < length c.args.disks.now = λ peer low. omega (arith, low, c.requires.count) in
+    let many : length views ≡ total = grind (arith, common_steps) in
+    let since : (peer : ℕ) → g.D.Disk.tells → Since (seen_at via peer).stands = λ peer told. seen_since f (λ disk side m high. g.met.D.Disk.since told disk side m high) c.view_all.new.disks peer in
+    let same : length c.view_all.new.disks ≡ length c.args.disks.now = c.view_all.ensures.count in
+    λ shard low.
+    let w = shard_within c.args.shape shard low in
+    leaves_moved_shard g.D.Disk.tells c.args.shape c.args.watch.now c.view_all.new.watch c.take_all.new.watch old via new views total c.take_all.ensures.ticks (λ peer less. c.view_all.ensures.read peer (within peer less))
+    (λ peer less. view_of g.D.Disk.tells c.args.shape peer (seen_at old peer) (seen_at via peer) (slice_index_or views peer None) (c.view_all.ensures.read peer (within peer less)).seen (c.in-Ok.ensures.viewed peer (within peer less)).some) since
+    shard (λ peer of. let t = of.to in omega (arith, w, t)) (chosen_home c.args.shape views shard (let l = c.requires.shape.some_copy in omega (arith, l)) (omega (arith, w, many))) (omega (arith, w, many)) (λ peer less. c.in-Ok.ensures.viewed peer (within peer less))
+    (λ peer less. c.take_all.ensures.counted peer (omega (arith, less, c.requires.count, same))) (c.take_all.ensures.moved shard low)

@@ -8,7 +8,7 @@ use Rattle.hs_shard.specs.Facts.{Catalogue, empty_catalogue}
 use Rattle.hs_taking.proofs.DiskLemmas.{seen_since}
 use Rattle.hs_taking.proofs.LevelLemmas.{still_same}
 use Rattle.hs_taking.proofs.ShardLemmas.{moved_read, still_keeps}
-use Rattle.hs_taking.proofs.SlotLemmas.{aside_is, bare_fresh, bare_moved, bare_viewed, shard_bare, shard_viewed, viewed_is}
+use Rattle.hs_taking.proofs.SlotLemmas.{aside_is, bare_fresh, bare_moved, bare_viewed, none_viewed, shard_bare, shard_viewed, viewed_is}
 use Rattle.hs_taking.proofs.StepLemmas.{at_any}
 use Rattle.hs_taking.specs.declared.slot.Slot.{Slot}
 use Rattle.hs_taking.specs.declared.slot.Slot.TheVariants.{Aside, Viewed}
@@ -136,3 +136,12 @@ returns-in-None-clause-moved g c =
     moved_read g.D.Disk.tells c.args.shape c.args.shard c.args.peer c.args.watch.now c.args.watch.now d0 d0 slots (omega arith) since c.requires.viewed (λ peer differs. still_same g.D.Disk.tells (seen_at d0 peer) (seen_at d0 peer) refl)
     (still_keeps g.D.Disk.tells c.args.watch.now c.args.watch.now (seen_at d0 c.args.peer) (seen_at d0 c.args.peer) (omega arith) (since c.args.peer) (still_same g.D.Disk.tells (seen_at d0 c.args.peer) (seen_at d0 c.args.peer) refl))
     (λ peer not. refl)
+
+pub returns-in-Some-clause-idle : goal.returns-in-Some-clause-idle
+returns-in-Some-clause-idle g c = λ none.
+    let slots : List Slot = c.args.slots.now.items in
+    let i : ℕ = c.from-place.result in
+    let at : i ≡ c.args.peer = c.from-place.ensures in
+    let low : i < length slots = omega (arith, at, c.requires.within, c.requires.slots) in
+    let was : slot_at slots c.args.peer ≡ c.replace-slot.result = ap (λ n. slot_at slots n) (sym at) ∙ sym (c.index_mut.ensures.value ∙ at_any slots i c.index_mut.result.now Aside low) ∙ sym c.replace-slot.ensures.value in
+    absurd (none_viewed c.in-Some.view (sym none ∙ ap (λ (s : Slot). viewed_of s) was ∙ sym c.viewed_of.ensures ∙ c.in-Some.is))
