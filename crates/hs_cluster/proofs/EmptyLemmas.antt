@@ -1,9 +1,9 @@
 -- What calls one after another leave of lists; what recovering a disk refuses, and what an emptying and a copying step leave.
 use Rattle.std.proofs.Common.{◌≡◌, ◌∙◌, ◌⊎◌, inl, inr, ap, sym, subst, ℕ, ◌+◌, ◌==◌, ◌&&◌, true, false, List, [], ◌∷◌, ◌++◌, Option, Some, None, refl, arith}
 use Rattle.std.proofs.lemmas.Bool.{cases_lt}
-use Rattle.std.specs.Prelude.{IsSome, Result, Ok, Err, if◌then◌else◌}
+use Rattle.std.specs.Prelude.{IfOk, IsSome, Result, Ok, Err, if◌then◌else◌}
 use Rattle.hs_cluster.proofs.JobLemmas.{weaker}
-use Rattle.hs_cluster.specs.Jobs.{HasCopied, IsAnyOrNone, Try, WithCopy, sealed_list}
+use Rattle.hs_cluster.specs.Jobs.{HasCopied, IsAnyOrNone, OwnsLog, Try, WithCopy, sealed_list}
 use Rattle.hs_desk.specs.declared.done.Done.TheVariants as done
 use Rattle.hs_entry.specs.declared.entry.Entry.{Entry}
 use Rattle.hs_entry.specs.declared.rank.Rank.{Rank}
@@ -106,6 +106,18 @@ recovered_moments before mid now a b c lists list stays leaves is one two = each
 
 pub failed_moments : (before now : ℕ) (a b : Standing) (lists : ℕ → Numbered) → LeavesEach before now a b (IsAny lists) → LeavesEach before now a b (IsAnyOrNone lists)
 failed_moments before now a b lists one = weaker before now a b (IsAny lists) (IsAnyOrNone lists) (λ l h. inl h) one
+
+-- under its peer's header
+pub own_emptied : {E : Type 0} (header : Header) (generation : ℕ) (log : Keeping) (result : Result Keeping E) → log.log.head ≡ Some (header, generation) → IfOk result (λ emptied. emptied.log.head ≡ log.log.head)
+    → IfOk result (λ emptied. (generation : ℕ) × (emptied.log.head ≡ Some (header, generation)))
+own_emptied header generation log (Ok emptied) head same = (generation, same ∙ head)
+own_emptied header generation log (Err fault) head same = tt
+
+pub own_slot : (header : Header) (log : Keeping) → (generation : ℕ) × (log.log.head ≡ Some (header, generation)) → OwnsLog header (Some log)
+own_slot header log own = λ keeping at. subst (λ (k : Keeping). (generation : ℕ) × (k.log.head ≡ Some (header, generation))) (some_is log keeping at) own
+
+pub own_none : (header : Header) (kept : Option Keeping) → kept ≡ None → OwnsLog header kept
+own_none header kept gone = λ keeping at. absurd (none_is_not keeping (sym gone ∙ at))
 
 -- some list was found
 pub list_found : (P : Type 0) (o : Option Numbered) → IsSome o → ((list : Numbered) → o ≡ Some list → P) → P

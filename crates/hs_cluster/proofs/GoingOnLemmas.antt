@@ -9,7 +9,7 @@ use Rattle.hs_cluster.proofs.CountLemmas.{rises_within}
 use Rattle.hs_cluster.proofs.EventLemmas.{still_going}
 use Rattle.hs_cluster.proofs.FoundLemmas.{begins_so, finds, found, opens_so, was_read}
 use Rattle.hs_cluster.proofs.OpeningMoves.{all_good, alone_sane, alone_whole, jobs_first, same_members, sealed_first}
-use Rattle.hs_cluster.proofs.ShowLemmas.{rises_to}
+use Rattle.hs_cluster.proofs.StretchLemmas.{rises_to}
 use Rattle.hs_cluster.specs.Begins.{Begins, HasOpened}
 use Rattle.hs_cluster.specs.Calls.{Does, ran_out}
 use Rattle.hs_cluster.specs.Calm.{GoesCalmly}
@@ -485,4 +485,6 @@ module _ (tells : Type 0) (set : Setting) (span : Span) (cluster : Running) (don
         subst (λ x. AreAllCounted x o.turned.events o.disks span.new) (sym core_is)
         (o.turned.shows.read told (open_whole set opened_found) core_is (could_read one told going) stored);
     reads_on = reads_on;
+    begins = sym core_is;
+    copies = λ told. o.turned.shows.copies told;
   }

@@ -82,7 +82,7 @@ numbers : (n : ℕ) (rank : Rank) (es : Numbered) → GoOn n es → rank.number 
 numbers n rank [] g is = is ∙ omega arith
 numbers n rank (e ∷ es) g is = numbers (n + 1) (rank_after rank e.0 e.1) es g.2 (rank_number rank e.0 e.1 g.1 ∙ g.0) ∙ omega arith
 
-last_numbered : (es : Numbered) → IsNumbered es → last_of es ≡ length es
+pub last_numbered : (es : Numbered) → IsNumbered es → last_of es ≡ length es
 unfolding rank_of
 last_numbered es g = numbers 0 (record { view = 0; number = 0 }) es g refl ∙ omega arith
 
@@ -97,24 +97,24 @@ last_more es n e plain = go (record { view = 0; number = 0 }) es
 -- ---- before a job
 
 -- a peer of a store of one copy a shard has its shard's number
-floor_in : (c : Whole) (peer : ℕ) → IsSane c → IsPeer c.core.members.shape peer → floor c peer ≤ length (reach c peer)
+pub floor_in : (c : Whole) (peer : ℕ) → IsSane c → IsPeer c.core.members.shape peer → floor c peer ≤ length (reach c peer)
 floor_in c peer sane is =
     let one : c.core.members.shape.shards * c.core.members.shape.copies ≡ c.core.members.shape.shards * 1 = ap (λ n. c.core.members.shape.shards * n) sane.alone.copies in
     floor_within c peer sane (omega (arith, is, one))
 
-front_length : (c : Whole) (peer : ℕ) → IsSane c → IsPeer c.core.members.shape peer → length (sealed_front c peer) ≡ floor c peer
-front_length c peer sane is = length-take-le (floor c peer) (reach c peer) (floor_in c peer sane is)
+front_length : (c : Whole) (peer : ℕ) → floor c peer ≤ length (reach c peer) → length (sealed_front c peer) ≡ floor c peer
+front_length c peer within = length-take-le (floor c peer) (reach c peer) within
 
-last_sealed : (c : Whole) (peer : ℕ) → IsSane c → IsPeer c.core.members.shape peer → IsNumbered (sealed_front c peer) → last_of (sealed_front c peer) ≡ floor c peer
-last_sealed c peer sane is numbered = last_numbered (sealed_front c peer) numbered ∙ front_length c peer sane is
+last_sealed : (c : Whole) (peer : ℕ) → floor c peer ≤ length (reach c peer) → IsNumbered (sealed_front c peer) → last_of (sealed_front c peer) ≡ floor c peer
+last_sealed c peer within numbered = last_numbered (sealed_front c peer) numbered ∙ front_length c peer within
 
-front_take : (n : ℕ) (list : Numbered) → IsFrontOf 0 (take n list) list
+pub front_take : (n : ℕ) (list : Numbered) → IsFrontOf 0 (take n list) list
 front_take n list = (drop n list, sym (take-append-drop n list))
 
-pub sealed_may : (c : Whole) (peer : ℕ) → IsSane c → IsPeer c.core.members.shape peer → IsNumbered (sealed_front c peer) → MayHave c peer (sealed_front c peer)
-sealed_may c peer sane is numbered = record {
+pub sealed_may : (c : Whole) (peer : ℕ) → floor c peer ≤ length (reach c peer) → IsNumbered (sealed_front c peer) → MayHave c peer (sealed_front c peer)
+sealed_may c peer within numbered = record {
   front = front_take (floor c peer) (reach c peer);
-  long = let same = last_sealed c peer sane is numbered in omega (arith, same);
+  long = let same = last_sealed c peer within numbered in omega (arith, same);
 }
 
 plain_waits : (keeping : Keeping) (seen : List ℕ) (list : Numbered) (waiting : Option Entry) (entry : Entry) → IsKept keeping seen list waiting → waiting ≡ Some entry → is_of_base entry ≡ false
@@ -122,32 +122,32 @@ plain_waits keeping seen list None entry kept h = absurd (none_is_not entry h)
 plain_waits keeping seen list (Some other) entry kept h = subst (λ e. is_of_base e ≡ false) (some_is other entry h) kept.waits.plain
 
 -- what a Seal makes of the list: one entry more of the peer's
-record Sealing (c : Whole) (peer number : ℕ) : Type 0 where
-  list : sealed_list (sealed_front c peer) (appended_of peer c.core) ≡ take number (reach c peer)
-  last : last_of (sealed_list (sealed_front c peer) (appended_of peer c.core)) ≡ number
-  next : number ≡ floor c peer + 1
+pub record Sealing (c : Whole) (peer number : ℕ) : Type 0 where
+  pub list : sealed_list (sealed_front c peer) (appended_of peer c.core) ≡ take number (reach c peer)
+  pub last : last_of (sealed_list (sealed_front c peer) (appended_of peer c.core)) ≡ number
+  pub next : number ≡ floor c peer + 1
 
-sealing : (c : Whole) (peer number : ℕ) → IsSane c → IsPeer c.core.members.shape peer → HasKept c peer → SealsNext c peer number → Sealing c peer number
-sealing c peer number sane is kept h = record {
+pub sealing : (c : Whole) (peer number : ℕ) → floor c peer ≤ length (reach c peer) → HasKept c peer → SealsNext c peer number → Sealing c peer number
+sealing c peer number within kept h = record {
   list = ap (λ w. sealed_list (sealed_front c peer) w) h.appended ∙ same ∙ sym h.next.list;
   last = ap (λ w. last_of (sealed_list (sealed_front c peer) w)) h.appended ∙ ap last_of same ∙ last_more (sealed_front c peer) number h.entry (plain_waits kept.keeping kept.seen (sealed_front c peer) (appended_of peer c.core) h.entry kept.kept h.appended);
   next = h.next.next;
 }
   where
     same : with_waiting (sealed_front c peer) h.entry ≡ sealed_front c peer ++ (number, h.entry) ∷ []
-    same = ap (λ n. sealed_front c peer ++ (n, h.entry) ∷ []) (ap (λ n. n + 1) (last_sealed c peer sane is kept.kept.numbered) ∙ sym h.next.next)
+    same = ap (λ n. sealed_front c peer ++ (n, h.entry) ∷ []) (ap (λ n. n + 1) (last_sealed c peer within kept.kept.numbered) ∙ sym h.next.next)
 
-pub after_may : (c : Whole) (peer : ℕ) (j : Job) → IsSane c → IsPeer c.core.members.shape peer → HasKept c peer → first_job peer c.core ≡ Some j
+pub after_may : (c : Whole) (peer : ℕ) (j : Job) → floor c peer ≤ length (reach c peer) → HasKept c peer → NextJob c peer j
     → MayHave c peer (list_after j (sealed_front c peer) (appended_of peer c.core))
-after_may c peer j sane is kept first = go j (next_job c peer j sane first)
+after_may c peer j within kept next = go j next
   where
     stays : MayHave c peer (sealed_front c peer)
-    stays = sealed_may c peer sane is kept.kept.numbered
+    stays = sealed_may c peer within kept.kept.numbered
 
     go : (j : Job) → NextJob c peer j → MayHave c peer (list_after j (sealed_front c peer) (appended_of peer c.core))
     go (job.Append number entry) h = stays
     go (job.Seal number) h =
-        let s = sealing c peer number sane is kept h in
+        let s = sealing c peer number within kept h in
         record {
           front = subst (λ l. IsFrontOf peer l (reach c peer)) (sym s.list) (front_take number (reach c peer));
           long = omega (arith, s.last, s.next);
@@ -177,7 +177,7 @@ own_job c peer sane = go (first_job peer c.core) refl
 answer_of : (c : Whole) (peer : ℕ) (j : Job) (told : Done) → first_job peer c.core ≡ Some j → is_answer c.core peer told ≡ true → answers peer j told ≡ true
 answer_of c peer j told first answer = subst (λ o. option_map_or (λ x. answers peer x told) o false ≡ true) first answer
 
-append_is : (n : ℕ) (j : Job) → is_append_of n j ≡ true → (entry : Entry) × (j ≡ job.Append n entry)
+pub append_is : (n : ℕ) (j : Job) → is_append_of n j ≡ true → (entry : Entry) × (j ≡ job.Append n entry)
 append_is n (job.Append number entry) h = (entry, ap (λ k. job.Append k entry) (sym (same_number n number h)))
 append_is n (job.Seal number) h = absurd (false_is_not h)
 append_is n (job.Read number) h = absurd (false_is_not h)
@@ -185,7 +185,7 @@ append_is n job.Reset h = absurd (false_is_not h)
 append_is n (job.Copy from number) h = absurd (false_is_not h)
 append_is n job.Reclaim h = absurd (false_is_not h)
 
-seal_is : (n : ℕ) (j : Job) → is_seal_of n j ≡ true → j ≡ job.Seal n
+pub seal_is : (n : ℕ) (j : Job) → is_seal_of n j ≡ true → j ≡ job.Seal n
 seal_is n (job.Append number entry) h = absurd (false_is_not h)
 seal_is n (job.Seal number) h = ap (λ k. job.Seal k) (sym (same_number n number h))
 seal_is n (job.Read number) h = absurd (false_is_not h)
@@ -193,7 +193,7 @@ seal_is n job.Reset h = absurd (false_is_not h)
 seal_is n (job.Copy from number) h = absurd (false_is_not h)
 seal_is n job.Reclaim h = absurd (false_is_not h)
 
-read_is : (n : ℕ) (j : Job) → is_read_of n j ≡ true → j ≡ job.Read n
+pub read_is : (n : ℕ) (j : Job) → is_read_of n j ≡ true → j ≡ job.Read n
 read_is n (job.Append number entry) h = absurd (false_is_not h)
 read_is n (job.Seal number) h = absurd (false_is_not h)
 read_is n (job.Read number) h = ap (λ k. job.Read k) (sym (same_number n number h))
@@ -213,7 +213,7 @@ seal_within c peer number sane is h =
     let long = length-append (take number (reach c peer)) (drop number (reach c peer)) in
     let all = ap length (take-append-drop number (reach c peer)) in
     let one = ap length h.next.list ∙ length-append (sealed_front c peer) ((number, h.entry) ∷ []) in
-    let front = front_length c peer sane is in
+    let front = front_length c peer (floor_in c peer sane is) in
     let next = h.next.next in
     omega (arith, long, all, one, front, next)
 
@@ -223,7 +223,7 @@ pub done_may : (c : Whole) (peer at : ℕ) (j : Job) (told : Done) → IsSane c 
     → MayHave (step_whole (event.Report peer told) at c) peer (list_after j (sealed_front c peer) (appended_of peer c.core))
 done_may c peer at j told sane is kept first answer fine there =
     let behind = after_reports c told at peer sane answer there in
-    let may = after_may c peer j sane is kept first in
+    let may = after_may c peer j (floor_in c peer sane is) kept (next_job c peer j sane first) in
     record { front = behind.front (list_after j (sealed_front c peer) (appended_of peer c.core)) may.front; long = go told (answer_of c peer j told first answer) fine behind.told may.long }
   where
     new : Whole
@@ -236,7 +236,7 @@ done_may c peer at j told sane is kept first answer fine there =
     go (done.Stored number) a f h long = let same = h.0 in omega (arith, same, long)
     go (done.Sealed number) a f h long =
         let seals : j ≡ job.Seal number = seal_is number j a in
-        let s = sealing c peer number sane is kept (subst (λ x. NextJob c peer x) seals (next_job c peer j sane first)) in
+        let s = sealing c peer number (floor_in c peer sane is) kept (subst (λ x. NextJob c peer x) seals (next_job c peer j sane first)) in
         let last : last_of list ≡ number = ap (λ x. last_of (list_after x (sealed_front c peer) (appended_of peer c.core))) seals ∙ s.last in
         let same = h.0 in
         omega (arith, same, last)
@@ -303,7 +303,7 @@ done_is c peer at j told sane is kept first answer fine going =
     go (done.Sealed number) a f h front =
         let seals : j ≡ job.Seal number = seal_is number j a in
         let n : SealsNext c peer number = subst (λ x. NextJob c peer x) seals next in
-        let s = sealing c peer number sane is kept n in (
+        let s = sealing c peer number (floor_in c peer sane is) kept n in (
           ap (λ k. take k (reach new peer)) h.0 ∙ take_grown number (reach c peer) (reach new peer) (seal_within c peer number sane is n) front ∙ sym s.list ∙ ap (λ x. list_after x (sealed_front c peer) (appended_of peer c.core)) (sym seals),
           h.1 ∙ ap (λ x. waiting_after x (appended_of peer c.core)) (sym seals),
         )

@@ -2,10 +2,10 @@ pub mod BeginLemmas
 pub mod CalmLemmas
 pub mod CopyLemmas
 pub mod CountLemmas
-pub mod DeltaLemmas
 pub mod DiskLemmas
 pub mod EmptyLemmas
 pub mod EventLemmas
+mod Examples
 pub mod FindLemmas
 pub mod FoundLemmas
 pub mod GoingOnLemmas
@@ -18,11 +18,16 @@ pub mod LineLemmas
 pub mod OpenedLemmas
 pub mod OpeningMoves
 pub mod PastLemmas
+pub mod PeerEventLemmas
+pub mod PeerLogLemmas
+pub mod PeerReportLemmas
+pub mod PeerShowLemmas
 pub mod ReadLemmas
 pub mod ReportLemmas
 pub mod RoomLemmas
 pub mod RunLemmas
 pub mod ShowLemmas
+pub mod StretchLemmas
 pub mod TakenLemmas
 pub mod TurnedLemmas
 pub mod WalkLemmas

@@ -2,6 +2,7 @@
 use Rattle.std.proofs.Common.{◌≡◌, ◌∙◌, ap, sym, subst, ℕ, ◌≤◌, true, false, List, [], ◌∷◌, Option, Some, None, refl, arith}
 use Rattle.std.specs.Prelude.{Result, Ok, Err, ⊤, is_ok}
 use Rattle.hs_cluster.proofs.EventLemmas.{does_then}
+use Rattle.hs_cluster.proofs.PeerEventLemmas.{SlotStays}
 use Rattle.hs_cluster.proofs.ShowLemmas.{any_shows, quiet_shows}
 use Rattle.hs_cluster.proofs.WalkLemmas.{rise_one}
 use Rattle.hs_cluster.specs.Disks.{DiskSeen, log_at}
@@ -129,10 +130,10 @@ runs_also name line asked before now old new r Kept Also f runs = record { event
 -- a line that is one event without a call, whatever the disks
 pub runs_quiet : (name : List ℕ → Address) (line : ℕ) (asked meant : Command) (now : ℕ) (old new : Running) (disks : List DiskSeen) (r : Result ⊤ ClusterFault) (e : Event) → asked ≡ meant
     → (BeginsWith (record { line = line; core = old.core; events = done_of r (e, now); whole = is_ok r }) e (λ core. None) → AreOfCommand name (record { line = line; core = old.core; events = done_of r (e, now); whole = is_ok r }) meant)
-    → report_in e ≡ None → old.core.ended ≡ None → Does (done_of r (e, now)) old new r → ((p : ℕ) (keeping : Keeping) → log_at new.logs p ≡ Some keeping → log_at old.logs p ≡ Some keeping)
+    → report_in e ≡ None → old.core.ended ≡ None → Does (done_of r (e, now)) old new r → ((p : ℕ) (keeping : Keeping) → log_at new.logs p ≡ Some keeping → log_at old.logs p ≡ Some keeping) → ((p : ℕ) → SlotStays e old.logs new.logs p)
     → RunsLine name line asked now now old new r (Shows ⊤ (record { before = now; now = now; old = old; new = new; disks = disks; left = disks }) r)
-runs_quiet name line asked meant now old new disks r e same is quiet was does less =
-    let kept = quiet_shows e now old new disks r quiet was does less in
+runs_quiet name line asked meant now old new disks r e same is quiet was does less stays =
+    let kept = quiet_shows e now old new disks r quiet was does less stays in
     subst (λ c. RunsLine name line c now now old new r (Shows ⊤ (record { before = now; now = now; old = old; new = new; disks = disks; left = disks }) r)) (sym same)
     (runs_one name line meant now now old new r e now (Shows ⊤ (record { before = now; now = now; old = old; new = new; disks = disks; left = disks }) r) is (omega arith) (omega arith) does kept)
 

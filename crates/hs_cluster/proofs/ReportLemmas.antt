@@ -2,7 +2,7 @@
 use Rattle.std.proofs.Common.{◌≡◌, ◌≢◌, ◌∙◌, ◌⊎◌, inl, inr, ap, sym, subst, ℕ, true, false, List, [], ◌∷◌, length, Option, Some, None, refl, arith, suc}
 use Rattle.std.proofs.lemmas.Bool.{cases_eq}
 use Rattle.std.specs.Prelude.{Result, Ok}
-use Rattle.hs_cluster.proofs.HeldLemmas.{HasKept, MayHave, after_may, done_is, done_may, failed_may, sealed_beside, sealed_may}
+use Rattle.hs_cluster.proofs.HeldLemmas.{HasKept, MayHave, after_may, done_is, done_may, failed_may, floor_in, sealed_beside, sealed_may}
 use Rattle.hs_cluster.specs.Disks.{DiskSeen, log_at, stands_of}
 use Rattle.hs_cluster.specs.Jobs.{Leaves, LeavesLog, Tries, Working, WorksAlone, list_after, try_of}
 use Rattle.hs_cluster.specs.Kept.{KeepsLogs, sealed_front}
@@ -22,6 +22,7 @@ use Rattle.hs_events.specs.Whole.{Whole, counts, step_whole}
 use Rattle.hs_fold.specs.Shards.Setting.{Numbered}
 use Rattle.hs_limits.specs.declared.shape.Shape.{Shape}
 use Rattle.hs_members.specs.Members.{IsPeer}
+use Rattle.hs_moments.proofs.WorkLemmas.{next_job}
 use Rattle.hs_moments.specs.Moments.{EachImageOfOne, GivesFine, IsStanding, Keeps}
 use Rattle.hs_moments.specs.WholeMachine.{whole_machine}
 use Rattle.hs_peerlog.specs.Images.{GivesList, IsOne, LeavesAll, LeavesEach}
@@ -39,7 +40,7 @@ some_is x y e = cc
 
 -- ---- one disk of several
 
-one_of_each : (before now peer : ℕ) (disks left : List Standing) (Q : Numbered → Type 0) (P : (Side → List ℕ) → Type 0) → length left ≡ length disks → ((p : ℕ) → p ≢ peer → disk_at left p ≡ disk_at disks p)
+pub one_of_each : (before now peer : ℕ) (disks left : List Standing) (Q : Numbered → Type 0) (P : (Side → List ℕ) → Type 0) → length left ≡ length disks → ((p : ℕ) → p ≢ peer → disk_at left p ≡ disk_at disks p)
     → LeavesEach before now (disk_at disks peer) (disk_at left peer) Q → ((image : Side → List ℕ) → GivesList Q image → P image) → EachImageOfOne before now peer disks left P
 one_of_each before now peer disks left Q P count others run f = record {
   later = run.later;
@@ -51,7 +52,7 @@ one_of_each before now peer disks left Q P count others run f = record {
   others = others;
 }
 
-one_of_all : (before now peer : ℕ) (disks left : List Standing) (P : (Side → List ℕ) → Type 0) → length left ≡ length disks → ((p : ℕ) → p ≢ peer → disk_at left p ≡ disk_at disks p)
+pub one_of_all : (before now peer : ℕ) (disks left : List Standing) (P : (Side → List ℕ) → Type 0) → length left ≡ length disks → ((p : ℕ) → p ≢ peer → disk_at left p ≡ disk_at disks p)
     → LeavesAll before now (disk_at disks peer) (disk_at left peer) → ((image : Side → List ℕ) → IsStanding (disk_at disks peer) image → P image) → EachImageOfOne before now peer disks left P
 one_of_all before now peer disks left P count others run f = record {
   later = run.later;
@@ -63,10 +64,10 @@ one_of_all before now peer disks left P count others run f = record {
   others = others;
 }
 
-fine_by : (c : Whole) (peer : ℕ) (image : Side → List ℕ) (list : Numbered) → list_in image ≡ Some list → MayHave c peer list → GivesFine whole_machine c peer image
+pub fine_by : (c : Whole) (peer : ℕ) (image : Side → List ℕ) (list : Numbered) → list_in image ≡ Some list → MayHave c peer list → GivesFine whole_machine c peer image
 fine_by c peer image list read may = record { list = list; read = read; front = may.front; long = may.long }
 
-length_stands : (disks : List DiskSeen) → length (stands_of disks) ≡ length disks
+pub length_stands : (disks : List DiskSeen) → length (stands_of disks) ≡ length disks
 length_stands [] = refl
 length_stands (d ∷ disks) = ap (λ n. suc n) (length_stands disks)
 
@@ -112,7 +113,7 @@ module _ (c : Whole) (w : Working) (sane : IsSane c) (is : IsPeer c.core.members
           let has = logs.each w.peer keeping is at in
           let leaves = tries.each j keeping first at list waiting has in
           one_of_each w.before w.now w.peer (stands_of w.disks) (stands_of w.left) (IsOne list (list_after j list waiting)) (λ image. counts c w.peer ≡ true → Fine c image) (count_stands works.count) works.others leaves.moments
-          (λ image g counted. one_fine c list (list_after j list waiting) (sealed_may c w.peer sane is has.kept.numbered) (after_may c w.peer j sane is (record { keeping = keeping; seen = (disk_at (stands_of w.disks) w.peer).seen keeping.log.side; kept = has.kept }) first) image g)
+          (λ image g counted. one_fine c list (list_after j list waiting) (sealed_may c w.peer (floor_in c w.peer sane is) has.kept.numbered) (after_may c w.peer j (floor_in c w.peer sane is) (record { keeping = keeping; seen = (disk_at (stands_of w.disks) w.peer).seen keeping.log.side; kept = has.kept }) (next_job c w.peer j sane first)) image g)
 
   -- ---- its report
 
@@ -155,8 +156,8 @@ module _ (c : Whole) (w : Working) (sane : IsSane c) (is : IsPeer c.core.members
             fine_by after w.peer image (list_after did.j list waiting) (log.2.leaves image (record { sides = stands.sides })) (done_may c w.peer at did.j done sane is kept_by did.first answer fine there)
         go (Some disk) fails log =
             one_fine after list (list_after did.j list waiting)
-            (failed_may c w.peer at disk done list sane answer fails there (sealed_may c w.peer sane is did.has.kept.numbered))
-            (failed_may c w.peer at disk done (list_after did.j list waiting) sane answer fails there (after_may c w.peer did.j sane is kept_by did.first))
+            (failed_may c w.peer at disk done list sane answer fails there (sealed_may c w.peer (floor_in c w.peer sane is) did.has.kept.numbered))
+            (failed_may c w.peer at disk done (list_after did.j list waiting) sane answer fails there (after_may c w.peer did.j (floor_in c w.peer sane is) kept_by (next_job c w.peer did.j sane did.first)))
             image (did.leaves.moments.standing image (record { sides = stands.sides }))
 
     pub report_logs : c.core.ended ≡ None → (step (event.Report w.peer done) at c.core).ended ≡ None → KeepsLogs after w.after w.left

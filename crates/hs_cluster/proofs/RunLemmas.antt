@@ -8,7 +8,7 @@ use Rattle.hs_cluster.proofs.CountLemmas.{all_then, counted_before, counted_then
 use Rattle.hs_cluster.proofs.GoingOnLemmas.{going_before}
 use Rattle.hs_cluster.proofs.PastLemmas.{leaves_then}
 use Rattle.hs_cluster.proofs.RoomLemmas.{rooms_then}
-use Rattle.hs_cluster.proofs.ShowLemmas.{all_happened, happened_then, moments_then, rises_to, runs_append, runs_core, stored_back, stored_front, told_then}
+use Rattle.hs_cluster.proofs.StretchLemmas.{lists_then, rises_to, runs_append, runs_core, stored_back, stored_front, told_then}
 use Rattle.hs_cluster.proofs.TurnedLemmas.{not_ended}
 use Rattle.hs_cluster.specs.Calm.{GoesCalmly}
 use Rattle.hs_cluster.specs.declared.fault.ClusterFault.{ClusterFault}
@@ -30,7 +30,7 @@ use Rattle.hs_fold.specs.Shards.Setting.{Setting}
 use Rattle.hs_moments.proofs.HappenedLemmas.{happened_rise}
 use Rattle.hs_moments.proofs.MomentLemmas.{later-keeps, lt-is}
 use Rattle.hs_moments.specs.Machine.{runs, state_at, until}
-use Rattle.hs_moments.specs.Moments.{GivesFine, IsStanding, Keeps, ListsAtMoments, Since}
+use Rattle.hs_moments.specs.Moments.{GivesFine, IsStanding, Since}
 use Rattle.hs_moments.specs.WholeMachine.{whole_machine}
 use Rattle.hs_ports.specs.declared.disk.Side.{Side}
 use Rattle.hs_ports.specs.Disk.{IsImage}
@@ -94,18 +94,7 @@ module _ (tells : Type 0) (set : Setting) (found : Found) (before mid now : ℕ)
 
   lists : set.shape.copies ≡ 1 → tells → LeaveOneList before disks → (first_core set found).ended ≡ None → LeavesLists c (es ++ fs) (record { before = before; now = now; old = begun; new = new; disks = disks; left = left })
   lists alone told sound first =
-      let one = so_far.lists alone told sound first in
-      let two = shows.lists told behind behind_core (can.goes alone told sound) in
-      let mine : happened c.core es ≡ es = all_happened c.core es goes in
-      let all : happened c.core (es ++ fs) ≡ es ++ happened behind.core fs = happened_then c.core es fs goes ∙ ap (λ x. es ++ happened x fs) (sym (runs_core c es)) in
-      record {
-        earlier = λ k m side low fits. two.earlier k m side (let ticks = rises_to before mid es rise in omega (arith, low, ticks)) fits ∙ one.earlier k m side low fits;
-        moments = subst (λ xs. ListsAtMoments whole_machine c xs (record { before = before; now = now; disks = (stands_of left) })) (sym all)
-            (moments_then c es (happened behind.core fs) before mid now (stands_of between) (stands_of left) rise (happened_rise behind.core mid now fs on) two.earlier
-            (subst (λ xs. ListsAtMoments whole_machine c xs (record { before = before; now = mid; disks = (stands_of between) })) mine one.moments) two.moments);
-        keeps = subst (λ s. Keeps whole_machine s now (stands_of left)) (sym (ap (λ xs. runs whole_machine c xs) all ∙ runs_append c es (happened behind.core fs))) two.keeps;
-        told = told_then c es fs one.told two.told;
-      }
+      lists_then c es fs before mid now begun here new disks between left goes rise on (so_far.lists alone told sound first) (shows.lists told behind behind_core (can.goes alone told sound))
 
   past : set.shape.copies ≡ 1 → tells → (peer : ℕ) → (disk_at (stands_of disks) peer).last ≤ before → LeavesPast before now disks left new.logs r peer
   past one told peer last = leaves_then before mid now disks between left new.logs r peer (so_far.past one told peer last) (shows.past told disks (can.calm one) peer (can.holds one told peer last))

@@ -1,11 +1,14 @@
 -- What a cluster tells of its disks: the counts of any, and the contents, where they tell them and each shard has one copy.
-use Rattle.std.specs.Prelude.{◌≡◌, ◌≤◌, ◌<◌, ◌-◌, ◌^◌, ℕ, ⊤, List, [], ◌∷◌, take, Option, Some, None, Result, OnOk}
+use Rattle.std.specs.Prelude.{◌≡◌, ◌≤◌, ◌<◌, ◌-◌, ◌^◌, ℕ, ⊤, List, [], ◌∷◌, Option, Some, None, Result, OnOk}
 use Rattle.hs_cluster.specs.Calm.{GoesCalmly}
 use Rattle.hs_cluster.specs.Counts.{AreAllCounted, AreCounted}
 use Rattle.hs_cluster.specs.Disks.{DiskSeen, log_at, stands_of}
 use Rattle.hs_cluster.specs.Jobs.{HasStored, TellsBytes}
 use Rattle.hs_cluster.specs.Past.{HoldsLog, LeavesPast}
+use Rattle.hs_cluster.specs.PeerLogs.{KeepsPeers}
 use Rattle.hs_cluster.specs.Running.{Running}
+pub use Rattle.hs_cluster.specs.Sealed.{sealed_front}
+use Rattle.hs_cluster.specs.Steady.{AreSteady}
 use Rattle.hs_cluster.specs.declared.fault.ClusterFault.{ClusterFault}
 use Rattle.hs_core_words.specs.Looking.{catalogue_of, first_job, home}
 use Rattle.hs_desk.specs.declared.done.Done.{Done}
@@ -14,8 +17,7 @@ use Rattle.hs_events.specs.Course.{happened}
 use Rattle.hs_events.specs.Due.{Events}
 use Rattle.hs_events.specs.Reports.{TellsOf}
 use Rattle.hs_events.specs.Sane.{IsSane, appended_of}
-use Rattle.hs_events.specs.Whole.{Whole, floor, reach, step_whole}
-use Rattle.hs_fold.specs.Shards.Setting.{Numbered}
+use Rattle.hs_events.specs.Whole.{Whole, step_whole}
 use Rattle.hs_members.specs.Members.{IsPeer}
 use Rattle.hs_moments.specs.Machine.{runs}
 use Rattle.hs_moments.specs.Moments.{Keeps, ListsAtMoments}
@@ -23,10 +25,6 @@ use Rattle.hs_moments.specs.WholeMachine.{whole_machine}
 use Rattle.hs_peerlog.specs.Lists.{HasLog, IsKept, Keeping}
 use Rattle.hs_ports.specs.declared.disk.Side.{Side}
 use Rattle.hs_ports.specs.Moments.{disk_at}
-
--- how much of a peer's list is on its disk at least: what it has sealed
-abbrev pub sealed_front : Whole → ℕ → Numbered
-sealed_front c peer = take (floor c peer) (reach c peer)
 
 -- ---- between two calls
 
@@ -88,6 +86,12 @@ abbrev pub AreStored : Whole → Events → Type 0
 AreStored c [] = ⊤
 AreStored c (e ∷ es) = (c.core.ended ≡ None → IsStored c) × AreStored (step_whole e.0 e.1 c) es
 
+-- with any number of copies, where the core's lists go on as they should, and the logs have what is told of them: the lists at each moment, and the logs behind it
+pub record ShowsLists (span : Span) (result : Result ⊤ ClusterFault) (events : Events) : Type 0 where
+  pub lists : (c : Whole) → c.core ≡ span.old.core → AreSteady c events → KeepsPeers c span.old.logs span.disks span.before → LeavesLists c events span
+  pub goes_on : (c : Whole) → c.core ≡ span.old.core → AreSteady c events → KeepsPeers c span.old.logs span.disks span.before
+      → OnOk result (KeepsPeers (runs whole_machine c events) span.new.logs span.left span.now)
+
 -- what the events of a call show. Of whatever disks: what they report of failed calls is at the counts. Of those that tell their contents: what is told of blocks, and that reads too cost what is reported
 -- of failed calls; and, where a stop leaves the lists with which the call began, the lists at each moment. Behind it the cluster keeps what it needs to go on
 pub record Shows (tells : Type 0) (span : Span) (result : Result ⊤ ClusterFault) (events : Events) : Type 0 where
@@ -104,3 +108,5 @@ pub record Shows (tells : Type 0) (span : Span) (result : Result ⊤ ClusterFaul
   pub told : tells → (c : Whole) → c.core ≡ span.old.core → CanRead c span.old.logs span.disks → AreTold c events
   pub read : tells → (c : Whole) → c.core ≡ span.old.core → CanRead c span.old.logs span.disks → AreStored c events → AreAllCounted span.old.core events span.disks span.left
   pub reads_on : tells → (c : Whole) → c.core ≡ span.old.core → CanRead c span.old.logs span.disks → OnOk result (CanRead (runs whole_machine c events) span.new.logs span.left)
+  -- with any number of copies
+  pub copies : tells → ShowsLists span result events

@@ -1,4 +1,3 @@
-pub mod Ascending
 pub mod Begins
 pub mod Calls
 pub mod Calm
@@ -10,9 +9,12 @@ pub mod Jobs
 pub mod Kept
 pub mod Opens
 pub mod Past
+pub mod PeerLogs
 pub mod Resuming
 pub mod Rooms
 pub mod Running
 pub mod RunsOn
+pub mod Sealed
 pub mod Settling
+pub mod Steady
 pub mod Unopened

@@ -5,7 +5,7 @@ use Rattle.hs_cluster.specs.Calls.{outcome_by, ran_out}
 use Rattle.hs_cluster.specs.Calm.{GoesCalmly}
 use Rattle.hs_cluster.specs.Counts.{AreAllCounted, AreCounted, NoneFalls}
 use Rattle.hs_cluster.specs.declared.fault.ClusterFault.{ClusterFault}
-use Rattle.hs_cluster.specs.Kept.{AreStored, AreTold, CanGoOn, CanRead, LeavesLists}
+use Rattle.hs_cluster.specs.Kept.{AreStored, AreTold, CanGoOn, CanRead, LeavesLists, ShowsLists}
 use Rattle.hs_cluster.specs.Past.{LeavesPast}
 use Rattle.hs_cluster.specs.Rooms.{HaveRecordRoom}
 use Rattle.hs_cluster.specs.Running.{Running}
@@ -129,3 +129,6 @@ pub record Opens (tells : Type 0) (set : Setting) (span : Span) (cluster : Runni
   pub told : set.shape.copies ≡ 1 → tells → (first_core set found).ended ≡ None → AreTold (open_whole set found) events
   pub read : set.shape.copies ≡ 1 → tells → (first_core set found).ended ≡ None → AreStored (open_whole set found) events → AreAllCounted (first_core set found) events disks span.new
   pub reads_on : set.shape.copies ≡ 1 → tells → OnOk done (CanRead (runs whole_machine (open_whole set found) events) cluster.logs span.new)
+  -- with any number of copies, in the turns, from the core as it was opened
+  pub begins : begun.core ≡ first_core set found
+  pub copies : tells → ShowsLists (record { before = found.opened; now = span.now; old = begun; new = cluster; disks = disks; left = span.new }) done events

@@ -86,6 +86,14 @@ pub(crate) fn do_job<D: Disk>(
         (map (λ disk. seen_as (D.size disk) (D.stands disk) (D.faults disk)) disks.old)
         logs.new.items
         (map (λ disk. seen_as (D.size disk) (D.stands disk) (D.faults disk)) disks.new) p }
+    // Nor on that of its peer, where it is not emptied.
+    ensures heads { D.tells → first_job peer core.now ≢ Some job.Reset → (header : Header)
+        → IsHeadedAt header watch.old logs.old.items
+        (map (λ disk. seen_as (D.size disk) (D.stands disk) (D.faults disk)) disks.old) peer
+        → StaysHeadedAt header watch.old watch.new
+        (map (λ disk. seen_as (D.size disk) (D.stands disk) (D.faults disk)) disks.old)
+        logs.new.items
+        (map (λ disk. seen_as (D.size disk) (D.stands disk) (D.faults disk)) disks.new) peer }
     // No count falls. That of a disk whose failed call is told rose, but for a job that only read.
     ensures later { NoneFalls
         (map (λ disk. seen_as (D.size disk) (D.stands disk) (D.faults disk)) disks.old)

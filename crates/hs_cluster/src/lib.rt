@@ -7,7 +7,6 @@ mod fault;
 mod job;
 mod line;
 mod opening;
-mod readable;
 mod settle;
 mod work;
 

@@ -12,19 +12,20 @@ ghost use Rattle.hs_events.specs.Asked.{failed_disk};
 ghost use Rattle.hs_events.specs.Reports.{TellsOf, only_reads};
 ghost use Rattle.hs_fold.specs.Shards.Setting.{Numbered};
 ghost use Rattle.hs_peerlog.specs.Caused.{IsCalm, IsCaused, IsOutside};
-ghost use Rattle.hs_peerlog.specs.Heads.{LeavesHeader};
+ghost use Rattle.hs_peerlog.specs.Heads.{KeepsHeader, LeavesHeader};
 ghost use Rattle.hs_peerlog.specs.Images.{Is, IsOne, LeavesAny, LeavesEach};
 ghost use Rattle.hs_peerlog.specs.Lists.{HasLog, IsKept, IsReady, with_waiting};
 ghost use Rattle.hs_shard.specs.Facts.{pointers_at};
 ghost use Rattle.hs_side.specs.declared.header.Header.{Header};
 ghost use Rattle.hs_side.specs.Headers.{own_header};
+ghost use Rattle.hs_taking.specs.Past.{PastStays};
 
-use crate::readable::is_readable;
 use hs_desk::{Done, Job};
 use hs_entry::Entry;
 use hs_limits::Shape;
 use hs_peerlog::{LogFault, PeerLog};
 use hs_ports::{Disk, Watch};
+use hs_readable::is_readable;
 use hs_shard::Catalogue;
 use std::alloc::Global;
 
@@ -280,13 +281,21 @@ pub(crate) fn empty_disk<D: Disk>(
         (D.stands disk.new)) }
     ensures list { D.tells → (D.stands disk.old).last ≤ watch.old
         → IfOk result (λ log. HasLog log (D.stands disk.new) [] None) }
+    ensures own { D.tells → IfOk result (λ log. (generation : ℕ)
+        × (log.log.head ≡ Some (own_header shape peer, generation))) }
     // Where whatever a stop left had one of some lists, and no other peer's header, each moment leaves
-    // one of these, or the empty one.
+    // one of these, or the empty one, and no other header.
     ensures any_moment { D.tells → (D.stands disk.old).last ≤ watch.old
         → (lists : ℕ → Numbered) → LeavesAny (D.stands disk.old) lists
         → LeavesHeader (D.stands disk.old) (own_header shape peer)
         → LeavesEach watch.old watch.new (D.stands disk.old) (D.stands disk.new)
         (IsAnyOrNone lists) }
+    ensures headed { D.tells → (D.stands disk.old).last ≤ watch.old
+        → (lists : ℕ → Numbered) → LeavesAny (D.stands disk.old) lists
+        → LeavesHeader (D.stands disk.old) (own_header shape peer)
+        → KeepsHeader watch.old (D.stands disk.new) (own_header shape peer) }
+    ensures past { D.tells → (D.stands disk.old).last ≤ watch.old
+        → PastStays watch.old watch.new (D.stands disk.old) (D.stands disk.new) }
     ensures refused { IfErr result IsOutside }
     ensures ticks { watch.old ≤ watch.new }
     ensures calm { IsCalm (D.faults disk.old) (D.faults disk.new) result }
@@ -311,9 +320,15 @@ fn empty_log<D: Disk>(log: PeerLog, disk: &mut D, watch: &mut Watch) -> Result<P
     ensures list { D.tells → (D.stands disk.old).last ≤ watch.old → (list : Numbered)
         → HasLog log (D.stands disk.old) list None
         → IfOk result (λ emptied. HasLog emptied (D.stands disk.new) [] None) }
+    ensures head { IfOk result (λ emptied. emptied.log.head ≡ log.log.head) }
     ensures any_moment { D.tells → (D.stands disk.old).last ≤ watch.old → (list : Numbered)
         → HasLog log (D.stands disk.old) list None
         → LeavesEach watch.old watch.new (D.stands disk.old) (D.stands disk.new) (IsOne list []) }
+    ensures headed { D.tells → (D.stands disk.old).last ≤ watch.old → (list : Numbered)
+        → HasLog log (D.stands disk.old) list None → (head : Header × ℕ)
+        → log.log.head ≡ Some head → KeepsHeader watch.old (D.stands disk.new) head.0 }
+    ensures past { D.tells → (D.stands disk.old).last ≤ watch.old
+        → PastStays watch.old watch.new (D.stands disk.old) (D.stands disk.new) }
     ensures refused { IfErr result IsOutside }
     ensures ticks { watch.old ≤ watch.new }
     ensures calm { IsCalm (D.faults disk.old) (D.faults disk.new) result }

@@ -306,3 +306,25 @@ returns-in-Append-clause-headed g c = λ told p apart header headed.
     let low_logs : c.from-place.result < length c.args.logs.now.items = grind (arith, common_steps) in
     heads_at header c.args.watch.now c.do_usual.new.watch c.args.logs.now.items c.args.disks.now f c.from-place.result c.index_mut-in-Append.result.now c.do_usual.new.slot c.index-disks-place-in-Append.result c.do_usual.new.disk p c.do_usual.ensures.ticks (since_of f c.args.disks.now (g.met.D.Disk.since told) p) item low_logs low
     (λ e one. c.do_usual.ensures.headed told header one) headed
+
+pub returns-in_default-clause-heads : goal.returns-in_default-clause-heads
+returns-in_default-clause-heads g c = λ told other header headed.
+    let f : g.row.D.Denot → DiskSeen = λ disk. seen_as (g.D.Disk.size disk) (g.D.Disk.stands disk) (g.D.Disk.faults disk) in
+    heads_stay header c.args.watch.now c.args.logs.now.items c.args.logs.now.items (map f c.args.disks.now) c.args.peer (since_of f c.args.disks.now (g.met.D.Disk.since told) c.args.peer) (λ keeping at. at) headed
+
+pub returns-in-Reset-clause-heads : goal.returns-in-Reset-clause-heads
+returns-in-Reset-clause-heads g c = λ told other header headed.
+    let first : Some c.in-Some.job.now ≡ first_job c.args.peer c.args.core.now = first_of (search rules, grind (arith, common_steps)) in
+    absurd (other (sym first ∙ ap (λ (j : Job). Some j) c.in-Reset.is))
+
+pub returns-in-Copy-clause-heads : goal.returns-in-Copy-clause-heads
+returns-in-Copy-clause-heads g c = λ told other header headed. c.do_copy.ensures.headed told c.args.peer header headed
+
+pub returns-in-Append-clause-heads : goal.returns-in-Append-clause-heads
+returns-in-Append-clause-heads g c = λ told other header headed.
+    let f : g.row.D.Denot → DiskSeen = λ disk. seen_as (g.D.Disk.size disk) (g.D.Disk.stands disk) (g.D.Disk.faults disk) in
+    let item : c.index_mut-in-Append.result.now ≡ log_at c.args.logs.now.items c.from-place.result = grind (arith, common_steps) in
+    let low : c.from-place.result < length c.args.disks.now = grind (arith, common_steps) in
+    let low_logs : c.from-place.result < length c.args.logs.now.items = grind (arith, common_steps) in
+    heads_at header c.args.watch.now c.do_usual.new.watch c.args.logs.now.items c.args.disks.now f c.from-place.result c.index_mut-in-Append.result.now c.do_usual.new.slot c.index-disks-place-in-Append.result c.do_usual.new.disk c.args.peer c.do_usual.ensures.ticks (since_of f c.args.disks.now (g.met.D.Disk.since told) c.args.peer) item low_logs low
+    (λ e one. c.do_usual.ensures.headed told header one) headed

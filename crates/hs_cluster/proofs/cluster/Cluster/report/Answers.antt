@@ -1,4 +1,4 @@
-use Rattle.std.proofs.Common.{◌≡◌, Some, ap, arith, false, map, refl, subst, sym, true}
+use Rattle.std.proofs.Common.{◌≡◌, ◌≢◌, Some, ap, arith, false, map, refl, subst, sym, true}
 use Rattle.std.specs.Prelude.{IsSome, Ok, Option}
 use Rattle.hs_cluster.proofs.DiskLemmas.{since_of}
 use Rattle.hs_cluster.proofs.ShowLemmas.{does_same, job_cut, job_shows}
@@ -9,12 +9,13 @@ use Rattle.hs_cluster.specs.Counts.{HasAllPaid, HasPaid}
 use Rattle.hs_cluster.specs.Disks.{DiskSeen, log_at, seen_as, stands_of}
 use Rattle.hs_cluster.specs.Growing.{GoesOn}
 use Rattle.hs_cluster.specs.Headed.{IsHeadedAt, StaysHeadedAt}
-use Rattle.hs_cluster.specs.Jobs.{HasStored, ReadsOn, StandsBeside, WorksAlone, is_own}
+use Rattle.hs_cluster.specs.Jobs.{HasStored, ReadsOn, StandsBeside, Works, WorksAlone, is_own}
 use Rattle.hs_cluster.specs.Running.{Running}
 use Rattle.hs_core_words.specs.declared.event.Event.{Event}
 use Rattle.hs_core_words.specs.declared.event.Event.TheVariants as event
 use Rattle.hs_core_words.specs.Looking.{catalogue_of, first_job, home, status_of}
 use Rattle.hs_desk.specs.declared.job.Job.{Job}
+use Rattle.hs_desk.specs.declared.job.Job.TheVariants as job
 use Rattle.hs_entry.specs.declared.entry.Entry.{Entry}
 use Rattle.hs_events.specs.declared.due.Due.TheVariants.{Reporting}
 use Rattle.hs_events.specs.Due.{is_answer}
@@ -23,6 +24,7 @@ use Rattle.hs_members.specs.Members.{is_joining}
 use Rattle.hs_peerlog.specs.Lists.{IsKept, Keeping}
 use Rattle.hs_ports.specs.Moments.{disk_at}
 use Rattle.hs_side.specs.declared.header.Header.{Header}
+use Rattle.hs_side.specs.Headers.{own_header}
 use Rattle.hs_cluster.proofs.cluster.Cluster.report.Goals as goal
 
 pub returns-in_default-clause-does : goal.returns-in_default-clause-does
@@ -31,7 +33,7 @@ returns-in_default-clause-does g c = λ line.
     nothing_due line (Reporting c.args.peer) c.args.watch.now c.do_job-done.new.watch c.args.self.now _ _ c.requires.going c.do_job-done.ensures.ticks
     (ap (λ (r : Running). r.course) c.self.view_is) (ap (λ (r : Running). r.core) c.self.view_is)
     (job_cut g.D.Disk.tells c.args.watch.now c.do_job-done.new.watch c.args.peer c.args.self.now _ c.do_job-done.new.logs.items (map f c.args.disks.now) (map f c.do_job-done.new.disks) c.do_job-done.result c.requires.peer c.do_job-done.ensures.ticks
-    (λ told. since_of f c.args.disks.now (g.met.D.Disk.since told))
+    c.requires.going (λ told. since_of f c.args.disks.now (g.met.D.Disk.since told))
     (λ told. subst (λ (r : Running). is_own (first_job c.args.peer r.core) ≡ true → WorksAlone {E = ClusterFault} (record {
       peer = c.args.peer;
       before = c.args.watch.now;
@@ -41,6 +43,15 @@ returns-in_default-clause-does g c = λ line.
       disks = map f c.args.disks.now;
       left = map f c.do_job-done.new.disks;
     }) (first_job c.args.peer r.core) c.do_job-done.result) c.self.view_is (λ own. (c.do_job-done.ensures.works told).alone own))
+    (λ told. subst (λ (r : Running). Works {E = ClusterFault} (own_header r.core.members.shape c.args.peer) (record {
+      peer = c.args.peer;
+      before = c.args.watch.now;
+      now = c.do_job-done.new.watch;
+      logs = r.logs;
+      after = c.do_job-done.new.logs.items;
+      disks = map f c.args.disks.now;
+      left = map f c.do_job-done.new.disks;
+    }) (first_job c.args.peer r.core) c.do_job-done.result) c.self.view_is (c.do_job-done.ensures.works told))
     c.do_job-done.ensures.later)
 
 pub returns-clause-does : goal.returns-clause-does
@@ -77,7 +88,18 @@ returns-clause-does g c = λ line.
     (λ told. subst (λ (r : Running). is_own (first_job c.args.peer r.core) ≡ true → (list : Numbered) (waiting : Option Entry)
     → ((keeping : Keeping) → log_at r.logs c.args.peer ≡ Some keeping → IsKept keeping ((disk_at (stands_of (map f c.args.disks.now)) c.args.peer).seen keeping.log.side) list waiting)
     → (j : Job) → first_job c.args.peer r.core ≡ Some j → ReadsOn (log_at c.do_job-done.new.logs.items c.args.peer) (disk_at (stands_of (map f c.do_job-done.new.disks)) c.args.peer) j list waiting c.in-Ok.done)
-    c.self.view_is (c.in-Ok.ensures.reads told)))
+    c.self.view_is (c.in-Ok.ensures.reads told))
+    (λ told. subst (λ (r : Running). Works {E = ClusterFault} (own_header r.core.members.shape c.args.peer) (record {
+      peer = c.args.peer;
+      before = c.args.watch.now;
+      now = c.do_job-done.new.watch;
+      logs = r.logs;
+      after = c.do_job-done.new.logs.items;
+      disks = map f c.args.disks.now;
+      left = map f c.do_job-done.new.disks;
+    }) (first_job c.args.peer r.core) (Ok c.in-Ok.done)) c.self.view_is (c.in-Ok.ensures.works told))
+    (λ told. subst (λ (r : Running). first_job c.args.peer r.core ≢ Some job.Reset → (header : Header) → IsHeadedAt header c.args.watch.now r.logs (map f c.args.disks.now) c.args.peer
+    → StaysHeadedAt header c.args.watch.now c.do_job-done.new.watch (map f c.args.disks.now) c.do_job-done.new.logs.items (map f c.do_job-done.new.disks) c.args.peer) c.self.view_is (c.do_job-done.ensures.heads told)))
 
 pub returns-in_default-clause-beside : goal.returns-in_default-clause-beside
 returns-in_default-clause-beside g c =

@@ -1,0 +1,237 @@
+-- What events show of the disks of any number of copies: one event, and one run of them behind another.
+use Rattle.std.proofs.Common.{◌≡◌, ◌≢◌, ◌∙◌, ap, sym, subst, ℕ, Bool, true, false, List, [], ◌∷◌, ◌++◌, Option, Some, None, refl, arith}
+use Rattle.std.specs.Prelude.{OnOk, Result, Ok, Err, ⊤, if◌then◌else◌}
+use Rattle.hs_cluster.proofs.EventLemmas.{still_going}
+use Rattle.hs_cluster.proofs.PeerEventLemmas.{SlotStays, quiet_fine, quiet_peers}
+use Rattle.hs_cluster.proofs.PeerReportLemmas.{call_peers, peers_told, report_peers, report_peers_fine}
+use Rattle.hs_cluster.proofs.StretchLemmas.{call_earlier, call_keeps, call_lists, call_moments, lists_then, none_yet, runs_append, runs_core, step_going, told_by}
+use Rattle.hs_cluster.specs.Calls.{Does, done_of, ran_out}
+use Rattle.hs_cluster.specs.declared.fault.ClusterFault.{ClusterFault}
+use Rattle.hs_cluster.specs.declared.fault.ClusterFault.TheVariants.{NoMemory}
+use Rattle.hs_cluster.specs.Disks.{DiskSeen, stands_of}
+use Rattle.hs_cluster.specs.Headed.{IsHeadedAt, StaysHeadedAt}
+use Rattle.hs_cluster.specs.Jobs.{TellsBytes, Working, Works}
+use Rattle.hs_cluster.specs.Kept.{IsTold, ShowsLists, Span}
+use Rattle.hs_cluster.specs.PeerLogs.{KeepsPeers}
+use Rattle.hs_cluster.specs.Running.{Running}
+use Rattle.hs_cluster.specs.Steady.{AreSteady, GoesAlong, IsSteady, StepsSteadily}
+use Rattle.hs_core_words.specs.declared.event.Event.{Event}
+use Rattle.hs_core_words.specs.declared.event.Event.TheVariants as event
+use Rattle.hs_core_words.specs.Looking.{first_job}
+use Rattle.hs_core_words.specs.State.{Core}
+use Rattle.hs_core_words.specs.Step.{step}
+use Rattle.hs_desk.specs.declared.done.Done.{Done}
+use Rattle.hs_desk.specs.declared.fault.CoreFault.{CoreFault}
+use Rattle.hs_desk.specs.declared.job.Job.TheVariants as job
+use Rattle.hs_events.specs.Asked.{report_in}
+use Rattle.hs_events.specs.Course.{happened, is_refused, steps}
+use Rattle.hs_events.specs.Due.{Events, MomentsRise, is_answer}
+use Rattle.hs_events.specs.Whole.{Whole, counts, step_whole}
+use Rattle.hs_members.specs.Members.{IsPeer}
+use Rattle.hs_moments.proofs.MomentLemmas.{call-keeps, quiet-keeps}
+use Rattle.hs_moments.specs.Machine.{runs}
+use Rattle.hs_moments.specs.Moments.{EachImageOfOne, GivesFine, Grows, Keeps, Since}
+use Rattle.hs_moments.specs.WholeMachine.{whole_machine}
+use Rattle.hs_peerlog.specs.Lists.{Keeping}
+use Rattle.hs_ports.specs.declared.disk.Side.{Side}
+use Rattle.hs_side.specs.declared.header.Header.{Header}
+use Rattle.hs_side.specs.Headers.{own_header}
+
+-- ---- along events
+
+pub steady_front : (c : Whole) (es fs : Events) → (steps c.core es).ended ≡ None → AreSteady c (es ++ fs) → AreSteady c es
+steady_front c [] [] going h = h
+steady_front c [] (f ∷ fs) going h = λ was. (h.0 was).0
+steady_front c (e ∷ es) fs going h = (h.0, steady_front (step_whole e.0 e.1 c) es fs going h.1)
+
+pub steady_back : (c : Whole) (es fs : Events) → AreSteady c (es ++ fs) → AreSteady (runs whole_machine c es) fs
+steady_back c [] fs h = h
+steady_back c (e ∷ es) fs h = steady_back (step_whole e.0 e.1 c) es fs h.1
+
+-- ---- one event
+
+module _ (c : Whole) (e : Event) (now : ℕ) (was : c.core.ended ≡ None) where
+  first_steady : (r : Result ⊤ ClusterFault) → AreSteady c (done_of r (e, now)) → IsSteady c
+  first_steady r steady = go (ran_out r) steady
+    where
+      go : (b : Bool) → AreSteady c (if b then [] else (e, now) ∷ []) → IsSteady c
+      go true h = h was
+      go false h = (h.0 was).0
+
+  -- what is so before it, and behind it where it happened
+  goes_behind : (Q : Whole → Type 0) (r : Result ⊤ ClusterFault) → AreSteady c (done_of r (e, now)) → Q c → (is_refused (step e now c.core).ended ≡ false → StepsSteadily c (e, now) → Q (step_whole e now c))
+      → Q (runs whole_machine c (happened c.core (done_of r (e, now))))
+  goes_behind Q r steady before after = go (ran_out r) steady
+    where
+      last : (b : Bool) → is_refused (step e now c.core).ended ≡ b → StepsSteadily c (e, now) → Q (runs whole_machine c (if b then [] else (e, now) ∷ []))
+      last true is steps = before
+      last false is steps = after is steps
+
+      go : (b : Bool) → AreSteady c (if b then [] else (e, now) ∷ []) → Q (runs whole_machine c (happened c.core (if b then [] else (e, now) ∷ [])))
+      go true h = before
+      go false h = last (is_refused (step e now c.core).ended) refl (h.0 was).1
+
+-- behind it the core goes on, or a shard was lost
+by_end : (c : Whole) (e : Event) (now : ℕ) → StepsSteadily c (e, now) → is_refused (step e now c.core).ended ≡ false → (Q : Whole → Type 0) → (GoesAlong c e (step_whole e now c) → Q (step_whole e now c))
+    → (((peer : ℕ) → Grows whole_machine c (step_whole e now c) peer) → Q (step_whole e now c)) → Q (step_whole e now c)
+by_end c e now steps there Q on lost = go (step e now c.core).ended refl
+  where
+    go : (o : Option CoreFault) → (step e now c.core).ended ≡ o → Q (step_whole e now c)
+    go None is = on (steps.on is)
+    go (Some fault) is = lost (steps.lost fault is (ap is_refused (sym is) ∙ there))
+
+-- what is fine stays so
+grown_fine : (c new : Whole) (peer : ℕ) (image : Side → List ℕ) → Grows whole_machine c new peer → GivesFine whole_machine c peer image → GivesFine whole_machine new peer image
+grown_fine c new peer image g fine = record { list = fine.list; read = fine.read; front = g.front fine.list fine.front; long = let low = fine.long in let no_more = g.long in omega (arith, low, no_more) }
+
+-- the core goes on as the cluster's does
+was_going : (c : Whole) (old : Running) → c.core ≡ old.core → old.core.ended ≡ None → c.core.ended ≡ None
+was_going c old core was = ap (λ (x : Core). x.ended) core ∙ was
+
+pub quiet_lists : (e : Event) (now : ℕ) (old new : Running) (disks : List DiskSeen) (r : Result ⊤ ClusterFault) → report_in e ≡ None → old.core.ended ≡ None → Does (done_of r (e, now)) old new r
+    → ((p : ℕ) → SlotStays e old.logs new.logs p) → ShowsLists (record { before = now; now = now; old = old; new = new; disks = disks; left = disks }) r (done_of r (e, now))
+quiet_lists e now old new disks r quiet was does stays = record {
+  lists = λ c core steady can. record {
+    earlier = λ peer m side low fits. refl;
+    moments = record { fine = λ m peer low high fits counted image left. absurd (omega (arith, low, high)) };
+    keeps = goes_behind c e now (was_going c old core was) (λ s. Keeps whole_machine s now (stands_of disks)) r steady can.keeps
+        (λ there steps. by_end c e now steps there (λ s. Keeps whole_machine s now (stands_of disks)) (λ goes. quiet_fine c e now old.logs new.logs disks (was_going c old core was) quiet stays can goes)
+        (λ grows. quiet-keeps whole_machine c (step_whole e now c) now (stands_of disks) grows can.keeps));
+    told = told_by c e now r (subst (λ o. IsTold c o) (sym quiet) tt);
+  };
+  goes_on = λ c core steady can. go r does c core steady can;
+}
+  where
+    go : (r : Result ⊤ ClusterFault) → Does (done_of r (e, now)) old new r → (c : Whole) → c.core ≡ old.core → AreSteady c (done_of r (e, now)) → KeepsPeers c old.logs disks now
+        → OnOk r (KeepsPeers (runs whole_machine c (done_of r (e, now))) new.logs disks now)
+    go (Err fault) does c core steady can = tt
+    go (Ok done) does c core steady can =
+        let going : (step e now c.core).ended ≡ None = ap (λ x. (step e now x).ended) core ∙ step_going e now old new does in
+        quiet_peers c e now old.logs new.logs disks (was_going c old core was) quiet stays can ((steady.0 (was_going c old core was)).1.on going)
+
+-- nothing was done, and nothing came
+pub none_lists : (now : ℕ) (old new : Running) (disks : List DiskSeen) → ShowsLists (record { before = now; now = now; old = old; new = new; disks = disks; left = disks }) (Err NoMemory) []
+none_lists now old new disks = record {
+  lists = λ c core steady can. record {
+    earlier = λ peer m side low fits. refl;
+    moments = record { fine = λ m peer low high fits counted image left. absurd (omega (arith, low, high)) };
+    keeps = can.keeps;
+    told = tt;
+  };
+  goes_on = λ c core steady can. tt;
+}
+
+pub begin_lists : (now : ℕ) (old : Running) (disks : List DiskSeen) → ShowsLists (record { before = now; now = now; old = old; new = old; disks = disks; left = disks }) (Ok tt) []
+begin_lists now old disks = record {
+  lists = λ c core steady can. record {
+    earlier = λ peer m side low fits. refl;
+    moments = record { fine = λ m peer low high fits counted image left. absurd (omega (arith, low, high)) };
+    keeps = can.keeps;
+    told = tt;
+  };
+  goes_on = λ c core steady can. can;
+}
+
+-- it is given up
+pub cut_lists : (span : Span) (fault : ClusterFault) (es : Events) → ShowsLists span (Ok tt) es → ShowsLists span (Err fault) es
+cut_lists span fault es shows = record { lists = shows.lists; goes_on = λ c core steady can. tt }
+
+-- ---- a call and its report
+
+works_as : {E : Type 0} (peer : ℕ) (w : Working) (result : Result Done E) (c : Whole) (core : Core) → c.core ≡ core → Works (own_header core.members.shape peer) w (first_job peer core) result
+    → Works (own_header c.core.members.shape peer) w (first_job peer c.core) result
+works_as peer w result c core same works = subst (λ (x : Core). Works (own_header x.members.shape peer) w (first_job peer x) result) (sym same) works
+
+is_peer : (peer : ℕ) (c : Whole) (core : Core) → c.core ≡ core → IsPeer core.members.shape peer → IsPeer c.core.members.shape peer
+is_peer peer c core same is = subst (λ (x : Core). IsPeer x.members.shape peer) (sym same) is
+
+-- the job was not done, or its report did not come
+pub job_cut_lists : (before now peer : ℕ) (old new : Running) (after : List (Option Keeping)) (disks left : List DiskSeen) {E : Type 0} (result : Result Done E) → IsPeer old.core.members.shape peer → old.core.ended ≡ None → Since (stands_of disks)
+    → Works (own_header old.core.members.shape peer) (record { peer = peer; before = before; now = now; logs = old.logs; after = after; disks = disks; left = left }) (first_job peer old.core) result
+    → ShowsLists (record { before = before; now = now; old = old; new = new; disks = disks; left = left }) (Err NoMemory) []
+job_cut_lists before now peer old new after disks left {E = E} result is was since works = record {
+  lists = λ c core steady can.
+      let w : Working = record { peer = peer; before = before; now = now; logs = old.logs; after = after; disks = disks; left = left } in
+      let call = call_peers c w (steady (was_going c old core was)) (is_peer peer c old.core core is) can result (works_as peer w result c old.core core works) in
+      call_lists c before now peer (stands_of disks) (stands_of left) since can.keeps call (record { before = before; now = now; old = old; new = new; disks = disks; left = left }) refl refl refl refl;
+  goes_on = λ c core steady can. tt;
+}
+
+-- the job was done, and its report came, unless memory ran out or it was refused
+pub job_lists : (before now peer : ℕ) (old new : Running) (after : List (Option Keeping)) (disks left : List DiskSeen) (E : Type 0) (done : Done) (r : Result ⊤ ClusterFault) → IsPeer old.core.members.shape peer → old.core.ended ≡ None
+    → is_answer old.core peer done ≡ true → Since (stands_of disks)
+    → Works {E = E} (own_header old.core.members.shape peer) (record { peer = peer; before = before; now = now; logs = old.logs; after = after; disks = disks; left = left }) (first_job peer old.core) (Ok done)
+    → (first_job peer old.core ≢ Some job.Reset → (header : Header) → IsHeadedAt header before old.logs disks peer → StaysHeadedAt header before now disks after left peer)
+    → new.logs ≡ after → Does (done_of r (event.Report peer done, now)) old new r → TellsBytes done
+    → ShowsLists (record { before = before; now = now; old = old; new = new; disks = disks; left = left }) r (done_of r (event.Report peer done, now))
+job_lists before now peer old new after disks left E done r is was answer since works heads kept does bytes = record {
+  lists = λ c core steady can.
+      let steady_now = first_steady c e now (was_going c old core was) r steady in
+      let call = called c core steady_now can in
+      record {
+        earlier = call_earlier c before now peer (stands_of disks) (stands_of left) since can.keeps call;
+        moments = call_moments c before now peer (stands_of disks) (stands_of left) since can.keeps call (happened c.core (done_of r (e, now))) (none_yet c e now r);
+        keeps = goes_behind c e now (was_going c old core was) (λ s. Keeps whole_machine s now (stands_of left)) r steady
+            (call_keeps c before now peer (stands_of disks) (stands_of left) since can.keeps call)
+            (λ there steps. by_end c e now steps there (λ s. Keeps whole_machine s now (stands_of left))
+            (λ goes. report_peers_fine c w steady_now (low c core) can done now E (works_in c core) (answers c core) (was_going c old core was) goes (heads_in c core))
+            (λ grows. call-keeps whole_machine c (step_whole e now c) before now peer (stands_of disks) (stands_of left) (λ image. counts c peer ≡ true → GivesFine whole_machine c peer image) (λ k differs. grows k) call
+            (λ counted image stands. grown_fine c (step_whole e now c) peer image (grows peer) (call.standing image stands ((grows peer).counted counted))) can.keeps));
+        told = told_by c e now r (peers_told c w steady_now (low c core) can done now E (works_in c core) (answers c core), bytes);
+      };
+  goes_on = λ c core steady can. go r does c core steady can;
+}
+  where
+    e : Event
+    e = event.Report peer done
+
+    w : Working
+    w = record { peer = peer; before = before; now = now; logs = old.logs; after = after; disks = disks; left = left }
+
+    low : (c : Whole) → c.core ≡ old.core → IsPeer c.core.members.shape peer
+    low c core = is_peer peer c old.core core is
+
+    works_in : (c : Whole) → c.core ≡ old.core → Works {E = E} (own_header c.core.members.shape peer) w (first_job peer c.core) (Ok done)
+    works_in c core = works_as {E = E} peer w (Ok done) c old.core core works
+
+    answers : (c : Whole) → c.core ≡ old.core → is_answer c.core peer done ≡ true
+    answers c core = subst (λ x. is_answer x peer done ≡ true) (sym core) answer
+
+    heads_in : (c : Whole) → c.core ≡ old.core → first_job peer c.core ≢ Some job.Reset → (header : Header) → IsHeadedAt header before old.logs disks peer → StaysHeadedAt header before now disks after left peer
+    heads_in c core other = heads (λ reset. other (ap (λ x. first_job peer x) core ∙ reset))
+
+    called : (c : Whole) → c.core ≡ old.core → IsSteady c → KeepsPeers c old.logs disks before → EachImageOfOne before now peer (stands_of disks) (stands_of left) (λ image. counts c peer ≡ true → GivesFine whole_machine c peer image)
+    called c core steady can = call_peers c w steady (low c core) can (Ok done) (works_in c core)
+
+    go : (r : Result ⊤ ClusterFault) → Does (done_of r (e, now)) old new r → (c : Whole) → c.core ≡ old.core → AreSteady c (done_of r (e, now)) → KeepsPeers c old.logs disks before
+        → OnOk r (KeepsPeers (runs whole_machine c (done_of r (e, now))) new.logs left now)
+    go (Err fault) does c core steady can = tt
+    go (Ok x) does c core steady can =
+        let going : (step e now c.core).ended ≡ None = ap (λ x. (step e now x).ended) core ∙ step_going e now old new does in
+        let both = steady.0 (was_going c old core was) in
+        subst (λ l. KeepsPeers (step_whole e now c) l left now) (sym kept)
+        (report_peers c w both.0 (low c core) can done now E (works_in c core) (answers c core) (was_going c old core was) (both.1.on going) (heads_in c core))
+
+-- ---- some events behind others
+
+pub lists_behind : (before mid now : ℕ) (old here new : Running) (disks between left : List DiskSeen) (r : Result ⊤ ClusterFault) (es fs : Events) → Does es old here (Ok tt) → MomentsRise before es mid → MomentsRise mid fs now
+    → ShowsLists (record { before = before; now = mid; old = old; new = here; disks = disks; left = between }) (Ok tt) es
+    → ShowsLists (record { before = mid; now = now; old = here; new = new; disks = between; left = left }) r fs
+    → ShowsLists (record { before = before; now = now; old = old; new = new; disks = disks; left = left }) r (es ++ fs)
+lists_behind before mid now old here new disks between left r es fs does rise on first second = record {
+  lists = λ c core steady can.
+      lists_then c es fs before mid now old here new disks between left (going c core) rise on (first.lists c core (front c core steady) can)
+      (second.lists (runs whole_machine c es) (core_then c core) (steady_back c es fs steady) (first.goes_on c core (front c core steady) can));
+  goes_on = λ c core steady can.
+      subst (λ s. OnOk r (KeepsPeers s new.logs left now)) (sym (runs_append c es fs))
+      (second.goes_on (runs whole_machine c es) (core_then c core) (steady_back c es fs steady) (first.goes_on c core (front c core steady) can));
+}
+  where
+    core_then : (c : Whole) → c.core ≡ old.core → (runs whole_machine c es).core ≡ here.core
+    core_then c core = runs_core c es ∙ ap (λ x. steps x es) core ∙ sym (does.core refl)
+
+    going : (c : Whole) → c.core ≡ old.core → (steps c.core es).ended ≡ None
+    going c core = ap (λ x. (steps x es).ended) core ∙ ap (λ (x : Core). x.ended) (sym (does.core refl)) ∙ still_going es old here does
+
+    front : (c : Whole) → c.core ≡ old.core → AreSteady c (es ++ fs) → AreSteady c es
+    front c core steady = steady_front c es fs (going c core) steady
