@@ -105,11 +105,15 @@ module _ (g : ℕ) (b : Core) (t : Copies Entry) (st : IsInStep g b t) (q : ℕ)
       front_numbered told (t.peers q).list front ∙ ap (λ es. numbered told ++ es) (sym rest)
       ∙ ap (λ i. numbered told ++ take (length_of x q - i) (entries_above i x)) count
 
+pub told_lists : (g : ℕ) (b : Core) (s : Copies Entry) (told : ℕ → List (Item Entry)) → AreHeld s → (k : GoesTold g b s told) → (q : ℕ) → IsOf b.members.shape g q
+    → numbered ((after_events s k.events).peers q).list ≡ grown_by (group_of g b) q (numbered (told q))
+told_lists g b s told held k q own = by_idle g b (after_events s k.events) k.keeps q own (told q) (k.tells.lists q) (k.tells.seals held q) (k.tells.idle q)
+
 pub lists_go : (g : ℕ) (b : Core) (s : Copies Entry) (told : ℕ → List (Item Entry)) → AreHeld s → GoesTold g b s told → ListsGo g b s told
 lists_go g b s told held k = record {
   goes_on = record { events = k.events; allowed = k.allowed; keeps = k.keeps };
   held = all_held k.events s k.allowed held;
-  lists = λ q own. by_idle g b (after_events s k.events) k.keeps q own (told q) (k.tells.lists q) (k.tells.seals held q) (k.tells.idle q);
+  lists = told_lists g b s told held k;
 }
 
 pub lists_by : (g : ℕ) (e : Event) (at : ℕ) (c : Core) (s : Copies Entry) → IsInStep g c s → AreHeld s → (step e at c).ended ≡ None → ListsGo g (step e at c) s (lists_told g e c s)

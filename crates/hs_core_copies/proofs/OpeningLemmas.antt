@@ -360,7 +360,7 @@ module _ (shape : Shape) (limits : Limits) (taken : Taken) (moment : ℕ) (fits 
       (besides_same g (new_core shape limits taken moment) (seated_first shape taken fits count limits moment)) refl
 
 -- all members are as at first
-told_members : (shape : Shape) (limits : Limits) (taken : Taken) (moment : ℕ) → (note_down (begin_views (new_core shape limits taken moment))).members ≡ first_members shape taken
+pub told_members : (shape : Shape) (limits : Limits) (taken : Taken) (moment : ℕ) → (note_down (begin_views (new_core shape limits taken moment))).members ≡ first_members shape taken
 told_members shape limits taken moment =
     down_members (all_peers (shape_of (begin_views (new_core shape limits taken moment)))) (begin_views (new_core shape limits taken moment))
     ∙ each_members (shards_of (new_core shape limits taken moment)) (new_core shape limits taken moment)

@@ -67,7 +67,7 @@ effect_stays (Copying p more) s = front_refl s.took
 effect_stays (Copied p) s = front_refl s.took
 effect_stays (Join p lead x) s = front_refl s.took
 
-effects_stay : (es : List (CopyEvent Entry)) (s : Copies Entry) → IsFront s.took (after_events s es).took
+pub effects_stay : (es : List (CopyEvent Entry)) (s : Copies Entry) → IsFront s.took (after_events s es).took
 effects_stay [] s = front_refl s.took
 effects_stay (e ∷ es) s = front_trans s.took (after_event e s).took (after_events (after_event e s) es).took (effect_stays e s) (effects_stay es (after_event e s))
 

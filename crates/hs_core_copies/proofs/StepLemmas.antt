@@ -233,7 +233,7 @@ steps_move g = record {
   operations = λ x c. moves_quiet g c _ (record { members = refl; groups = refl; tasks = refl; rejoins = refl; pool = refl });
   sessions = λ x c. moves_quiet g c _ (record { members = refl; groups = refl; tasks = refl; rejoins = refl; pool = refl });
   noted = λ of did told c. moves_quiet g c _ (record { members = refl; groups = refl; tasks = refl; rejoins = refl; pool = refl });
-  proposes = proposes g;
+  proposes = λ x entry c plain. proposes g x entry c plain.0;
   reads = reads g;
   sends = sends g;
   commits = commits g;

@@ -24,6 +24,7 @@ use Rattle.hs_desk.specs.declared.what.What.TheVariants as what
 use Rattle.hs_entry.specs.declared.entry.Entry.{Entry}
 use Rattle.hs_entry.specs.declared.entry.Entry.TheVariants as kind
 use Rattle.hs_copies.specs.Standing.{TellsNoView}
+use Rattle.hs_entry.specs.Entries.{is_of_base}
 use Rattle.hs_journal.specs.declared.entry.Who.{Who}
 use Rattle.hs_limits.specs.declared.address.Address.{Address}
 use Rattle.hs_model.specs.declared.deed.Deed.{Deed}
@@ -55,14 +56,18 @@ use Rattle.hs_tokens.specs.Seats.{Seats}
 
 -- ---- what operations propose
 
--- an entry that it asks for is no View, and is not kept behind a Base
+-- an entry is no View and no Base, and is not kept behind a Base
+abbrev pub IsOrdinary : Entry → Type 0
+IsOrdinary entry = TellsNoView entry × (is_of_base entry ≡ false)
+
+-- an entry that it asks for is such a one
 abbrev pub ProposesPlain : OpStep → Type 0
 ProposesPlain (step.Answer reply) = Unit
-ProposesPlain (step.Propose entry) = TellsNoView entry
+ProposesPlain (step.Propose entry) = IsOrdinary entry
 ProposesPlain (step.Compare number) = Unit
 ProposesPlain step.Wait = Unit
 
-plain_unless : (b : Bool) (entry : Entry) → TellsNoView entry → ProposesPlain (propose_unless b entry)
+plain_unless : (b : Bool) (entry : Entry) → IsOrdinary entry → ProposesPlain (propose_unless b entry)
 plain_unless true entry h = tt
 plain_unless false entry h = h
 
@@ -82,14 +87,14 @@ plain_asked : (v : OpView) (line : ℕ) (o : Op) → ProposesPlain (asked_for v 
 unfolding asked_for block_entry
 plain_asked v line (op.Open name) = tt
 plain_asked v line (op.Close name) = tt
-plain_asked v line (op.Write name payload handles address) = plain_read (propose_unless v.pending (block_entry v line name payload handles)) v.present (plain_unless v.pending (block_entry v line name payload handles) (λ view. refl))
+plain_asked v line (op.Write name payload handles address) = plain_read (propose_unless v.pending (block_entry v line name payload handles)) v.present (plain_unless v.pending (block_entry v line name payload handles) ((λ view. refl), refl))
 plain_asked v line (op.Read name handle) = plain_read (step.Answer (read_reply v name [])) v.present tt
 plain_asked v line (op.Look name key) = tt
-plain_asked v line (op.Root name key handle) = plain_unless v.pending (root_entry v line name key handle) (λ view. refl)
-plain_asked v line (op.Drop key) = λ view. refl
+plain_asked v line (op.Root name key handle) = plain_unless v.pending (root_entry v line name key handle) ((λ view. refl), refl)
+plain_asked v line (op.Drop key) = ((λ view. refl), refl)
 plain_asked v line (op.Forget name handle) = tt
 plain_asked v line (op.Name name handle) = tt
-plain_asked v line op.Delete = λ view. refl
+plain_asked v line op.Delete = ((λ view. refl), refl)
 plain_asked v line op.Stat = tt
 
 plain_go : (v : OpView) (line : ℕ) (o : Op) → ProposesPlain (go v line o)
@@ -105,7 +110,7 @@ unfolding compared mark_entry
 plain_compared v line number bytes pointers (op.Open name) = tt
 plain_compared v line number bytes pointers (op.Close name) = tt
 plain_compared v line number bytes pointers (op.Write name payload handles address) =
-    plain_if _ (go v line (op.Write name payload handles address)) _ (plain_go v line (op.Write name payload handles address)) (plain_if (is_same_block (asked_block v.seats name payload handles) bytes pointers) (step.Propose (mark_entry v line number name handles address)) _ (λ view. refl) tt)
+    plain_if _ (go v line (op.Write name payload handles address)) _ (plain_go v line (op.Write name payload handles address)) (plain_if (is_same_block (asked_block v.seats name payload handles) bytes pointers) (step.Propose (mark_entry v line number name handles address)) _ ((λ view. refl), refl) tt)
 plain_compared v line number bytes pointers (op.Read name handle) = tt
 plain_compared v line number bytes pointers (op.Look name key) = tt
 plain_compared v line number bytes pointers (op.Root name key handle) = tt
@@ -143,7 +148,7 @@ pub record StepLeaves (R : Core → Core → Type 0) : Type 0 where
   pub operations : (x : List (ℕ × Waiting)) (c : Core) → R c (record c { operations = x })
   pub sessions : (x : Seats) (c : Core) → R c (record c { sessions = x })
   pub noted : (of : Who) (did : Deed) (told : Reply) (c : Core) → R c (note of did told c)
-  pub proposes : (shard : ℕ) (entry : Entry) (c : Core) → TellsNoView entry → R c (propose_entry shard entry c)
+  pub proposes : (shard : ℕ) (entry : Entry) (c : Core) → IsOrdinary entry → R c (propose_entry shard entry c)
   pub reads : (shard number line : ℕ) (c : Core) → R c (change_with (lead_of shard c) (add_read number line) c)
   pub sends : (shard : ℕ) (sent : List Sent) (c : Core) → R c (post (round_messages shard sent) c)
   pub commits : (shard : ℕ) (c : Core) → R c (change_group shard take_committed c)
@@ -222,7 +227,7 @@ module _ {R : Core → Core → Type 0} (L : StepLeaves R) where
   -- ---- entries that take effect
 
   pub keeps_propose_due : (shard : ℕ) (c : Core) → R c (propose_due shard c)
-  keeps_propose_due shard c = keeps_if (is_enter_due shard c) (propose_entry shard (kind.Enter 0 ((catalogue_of shard c).epoch + 1))) c (λ x. L.proposes shard _ x (λ view. refl))
+  keeps_propose_due shard c = keeps_if (is_enter_due shard c) (propose_entry shard (kind.Enter 0 ((catalogue_of shard c).epoch + 1))) c (λ x. L.proposes shard _ x ((λ view. refl), refl))
 
   keeps_sweep : (shard removed : ℕ) (c : Core) → R c (note_sweep shard removed c)
   keeps_sweep shard removed c = L.both c _ _ (L.noted _ _ _ c) (keeps_if _ (note _ _ _) _ (λ x. L.noted _ _ _ x))

@@ -10,9 +10,9 @@ ghost use Rattle.hs_limits.specs.declared.limits.PeerStatus.TheVariants.{Good};
 ghost use Rattle.hs_replica.specs.Group.{copy_of};
 ghost use Rattle.hs_core_copies.specs.InStep.{IsInStep, IsOf};
 
-/// In a core whose shard is in step take any front of a good peer's list, and any front of any peer's list, with what its
-/// last copying step may have added. If the rank of the second is no less, it begins with the first; and it has all
-/// that took effect, where the first has what the good peer has sealed.
+/// In a core whose shard is in step take any front of a good peer's list, and any front of any peer's list, with what the
+/// machine has it that its last copying step may have added. If the rank of the second is no less, it begins with the first
+/// (`lineage`); and it has all that took effect, where the first has what the good peer has sealed (`effects`).
 pub fn a_list_of_greater_rank_goes_on_from_a_good_peers()
     ensures lineage { (shard : ℕ) (core : Core) (copies : Copies Entry) → IsInStep shard core copies
         → (peer other : ℕ) (front list : List (Item Entry))

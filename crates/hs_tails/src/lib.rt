@@ -1,0 +1,19 @@
+//! Lists of a shard that are not the lead's, and that a stop may leave to be chosen: laws, each a function without
+//! parameters whose clauses are the law.
+#![tactic(auto)]
+
+mod chosen;
+mod copies;
+mod events;
+mod lines;
+mod tails;
+
+pub use chosen::chosen_lists_reopen;
+pub use copies::{
+    each_list_was_known_or_is_the_leads, known_lists_go_on, what_takes_effect_stood_in_the_list,
+};
+pub use events::each_event_keeps_tails;
+pub use lines::lines_of_a_tail_stay_open;
+pub use tails::{
+    a_front_of_a_tail_is_a_tail, each_tail_rests_behind_an_entry, what_waits_is_a_tail,
+};
