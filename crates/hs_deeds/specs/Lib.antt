@@ -1,0 +1,5 @@
+pub mod Told
+pub mod Points
+pub mod Bare
+pub mod On
+pub mod History

@@ -1,0 +1,3 @@
+mod LeavingLemmas
+mod CountLemmas
+mod Examples
