@@ -1,0 +1,13 @@
+pub mod Copied
+pub mod Heard
+pub mod Listing
+pub mod Writing
+pub mod Copying
+pub mod Calls
+pub mod Faults
+pub mod Placing
+pub mod Due
+pub mod Whole
+pub mod Rounds
+pub mod Finding
+pub mod Hands
