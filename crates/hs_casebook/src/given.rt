@@ -27,6 +27,8 @@ pub struct Each {
 #[derive(Drop)]
 pub struct Given {
     pub disks: Option<u8>,
+    /// How many disks of the run before are left out, those of its first peers.
+    pub skip: u8,
     pub zero: BTreeMap<u8, Vec<u8>>,
     pub one: BTreeMap<u8, Vec<u8>>,
     pub disk_fails: BTreeMap<u8, Vec<u64>>,
@@ -41,6 +43,7 @@ pub struct Given {
 #[derive(Clone, Copy)]
 enum Word {
     Disks,
+    Skip,
     Zero,
     One,
     Fails,
@@ -49,8 +52,9 @@ enum Word {
 }
 
 /// The words of these lines.
-const WORDS: [(&str, Word); 6] = [
+const WORDS: [(&str, Word); 7] = [
     ("disks", Word::Disks),
+    ("skip", Word::Skip),
     ("zero", Word::Zero),
     ("one", Word::One),
     ("fails", Word::Fails),
@@ -63,6 +67,7 @@ impl Given {
     pub fn new(alloc: Global) -> Given {
         Given {
             disks: None,
+            skip: 0,
             zero: BTreeMap::new(alloc),
             one: BTreeMap::new(alloc),
             disk_fails: BTreeMap::new(alloc),
@@ -80,6 +85,7 @@ impl Given {
         };
         match word {
             Word::Disks => self.disks = Some(reader.small(line.rest)),
+            Word::Skip => self.skip = reader.small(line.rest),
             Word::Zero => add_side(reader, &mut self.zero, line.rest),
             Word::One => add_side(reader, &mut self.one, line.rest),
             Word::Fails => self.add_fails(reader, line.rest),

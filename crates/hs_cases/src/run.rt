@@ -108,7 +108,8 @@ fn asked_for(words: &[u8]) -> Option<u8> {
 }
 
 /// The disks that a run is begun on: those that a stop of the run before may leave, or blank ones,
-/// but for the sides that the run is given. Of one disk a further call fails.
+/// but for the sides that the run is given, and without the first disks where some are left out. Of one
+/// disk a further call fails.
 pub fn disks_of(
     reader: &mut Reader,
     pass: &Pass,
@@ -117,8 +118,8 @@ pub fn disks_of(
 ) -> Vec<MemoryDisk> {
     let mut disks = Vec::new(reader.alloc);
     for peer in 0..count_of(pass) {
-        let zero = side_of(reader, &pass.given.zero, before, peer, Side::Zero);
-        let one = side_of(reader, &pass.given.one, before, peer, Side::One);
+        let zero = side_of(reader, pass, &pass.given.zero, before, peer, Side::Zero);
+        let one = side_of(reader, pass, &pass.given.one, before, peer, Side::One);
         let fails = fails_of(reader, pass, peer, failing);
         let disk = MemoryDisk::new(reader.alloc, zero, one, fails);
         reader.stored(disks.push(disk));
@@ -129,6 +130,7 @@ pub fn disks_of(
 /// The bytes of a side that a run is begun on.
 fn side_of(
     reader: &mut Reader,
+    pass: &Pass,
     given: &BTreeMap<u8, Vec<u8>>,
     before: Option<(&Seen, Stop)>,
     peer: u8,
@@ -139,7 +141,15 @@ fn side_of(
     }
     match before {
         None => Vec::new(reader.alloc),
-        Some((seen, stop)) => left_at(reader, seen, peer, side, stop),
+        Some((seen, stop)) => {
+            left_at(
+                reader,
+                seen,
+                peer.saturating_add(pass.given.skip),
+                side,
+                stop,
+            )
+        }
     }
 }
 

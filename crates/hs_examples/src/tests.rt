@@ -23,7 +23,7 @@ fn the_whole_program_runs_a_script(rt: HostRuntime) -> Result<(), Fail> {
     for (text, fits, code, put) in [
         ("script d 1 1", true, 0, b"1 ok\n".as_slice()),
         ("load d 1 1", false, 2, b"".as_slice()),
-        ("copy d 1 1 k e 1 1", false, 2, b"".as_slice()),
+        ("copy d 1 1 k e 1 1", true, 2, b"".as_slice()),
     ] {
         let words = words_of(alloc, text)?;
         assert_eq!(rt; shape_of(&words).is_some(), fits, "{text}");

@@ -16,7 +16,7 @@ use Rattle.hs_tree.specs.declared.fault.TreeFault.TheVariants as fault
 use Rattle.hs_files.specs.Client.{end_status, tree_status}
 use Rattle.hs_files.specs.Halting.{Had, HadBefore, HaltsFetch, HaltsStore, Stops, StopsFetch}
 
-core_begun : (ended : CoreFault) → status_by (Some ended) ≡ status.Usage → ⊥
+pub core_begun : (ended : CoreFault) → status_by (Some ended) ≡ status.Usage → ⊥
 core_begun core.OpsFull is = absurd cc
 core_begun (core.ShardLost shard) is = absurd cc
 core_begun core.NoMemory is = absurd cc

@@ -3,3 +3,4 @@ pub mod Fetched
 pub mod Halting
 pub mod Put
 pub mod Stored
+pub mod Copied

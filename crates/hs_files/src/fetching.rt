@@ -147,7 +147,7 @@ fn put_fetched<K: Sink>(
 }
 
 /// Puts a file into the sink.
-fn put_file<K: Sink>(sink: &mut K, watch: &mut Watch, file: &[u8]) -> Status
+pub(crate) fn put_file<K: Sink>(sink: &mut K, watch: &mut Watch, file: &[u8]) -> Status
     ensures put { IsPutAs file.now (K.got sink.old) (K.got sink.new)
         (K.faults sink.old) (K.faults sink.new) result }
     ensures counted { K.faults sink.old ≤ K.faults sink.new }

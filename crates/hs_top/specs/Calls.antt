@@ -2,6 +2,7 @@
 use Rattle.std.specs.Prelude.{IfSome, List, None, Option, [], length, true, ℕ, ◌<◌, ◌≡◌, ◌⊎◌}
 use Rattle.hs_checks.specs.Audited.{IsAudited}
 use Rattle.hs_checks.specs.Compared.{IsCompared}
+use Rattle.hs_files.specs.Copied.{CopiesRoot}
 use Rattle.hs_journal.specs.Order.{IsOrdered}
 use Rattle.hs_kept.specs.Kept.{FetchesAndGives, StoresAndKeeps}
 use Rattle.hs_limits.specs.declared.address.Address.{Address}
@@ -70,7 +71,7 @@ pub record RunsSo (tells : Type 0) (S : Script) (r : Ran) : Type 0 where
   pub promised : Promised tells S r
   pub machine : IsOfCluster tells S r
 
--- what is asked for is done: a run of some commands goes so; a load has its writers and workers over an empty store; an audit says what the store amounts to, and a scrub whether its copies agree; a file is stored and kept, or that of a key is fetched; nothing else is served
+-- what is asked for is done: a run of some commands goes so; a load has its writers and workers over an empty store; an audit says what the store amounts to, and a scrub whether its copies agree; a file is stored and kept, or that of a key is fetched; a root is copied into a second store; nothing else is served
 abbrev pub Does : Type 0 → (List ℕ → Address) → Shape → Task → Ran → Type 0
 Does tells name shape (task.Script limits visits cache) r = (commands : ℕ → Option Command) × RunsSo tells (script_of name (record { shape = shape; limits = limits }) commands) r
 Does tells name shape (task.Load seed writers files) r = IsLoaded tells name shape seed writers files r
@@ -78,7 +79,7 @@ Does tells name shape task.Audit r = IsAudited tells name shape r
 Does tells name shape (task.Scrub from) r = IsCompared tells shape from r
 Does tells name shape (task.Store key) r = StoresAndKeeps tells name shape key r
 Does tells name shape (task.Fetch key) r = FetchesAndGives tells name shape key r
-Does tells name shape other r = ⊥
+Does tells name shape (task.Copy key dir second delete) r = CopiesRoot tells name (record { first = shape; second = second }) key delete r
 
 -- the words of a call ask for what is served, and that is done; or for what is not, and then nothing was done
 pub record IsCalled (tells : Type 0) (name : List ℕ → Address) (words : List (List ℕ)) (r : Ran) : Type 0 where

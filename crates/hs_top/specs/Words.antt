@@ -12,7 +12,7 @@ abbrev pub is_load_task : Task → Bool
 is_load_task (task.Load seed writers files) = true
 is_load_task other = false
 
--- what is served so far: a script without --visits and --cache, a load, an audit, a scrub, and storing and fetching a file
+-- what is served so far: a script without --visits and --cache, a load, an audit, a scrub, storing and fetching a file, and copying a root
 abbrev pub is_served : Task → Bool
 is_served (task.Script limits None None) = true
 is_served (task.Load seed writers files) = true
@@ -20,6 +20,7 @@ is_served task.Audit = true
 is_served (task.Store key) = true
 is_served (task.Fetch key) = true
 is_served (task.Scrub from) = true
+is_served (task.Copy key dir second delete) = true
 is_served other = false
 
 abbrev pub where_served : Invocation → Option Invocation
@@ -37,3 +38,11 @@ shape_in words = option_map (λ asked. asked.shape) (option_and_then where_serve
 abbrev pub is_load : List (List ℕ) → Bool
 is_load [] = false
 is_load (command ∷ words) = bytes_eq command (codes "load")
+
+-- the shape of the second store that they ask for, where they ask for a copy
+abbrev pub second_of : Task → Option Shape
+second_of (task.Copy key dir second delete) = Some second
+second_of other = None
+
+abbrev pub second_in : List (List ℕ) → Option Shape
+second_in words = option_and_then (λ asked. second_of asked.task) (invocation_of words)

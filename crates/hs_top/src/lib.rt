@@ -13,4 +13,4 @@ pub use laws::{a_run_may_begin, a_run_may_follow};
 pub use load::load_with;
 pub use status::{TopFault, exit_code, fault_line};
 pub use top::{hydra, hydra_alone};
-pub use words::{is_load, shape_of};
+pub use words::{is_load, second_shape, shape_of};

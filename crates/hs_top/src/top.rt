@@ -1,9 +1,10 @@
 //! The top call.
-ghost use Rattle.std.specs.Prelude.{◌≡◌, ◌*◌, false, length, map, string_bytes, true, vec_len, ℕ, Option};
+ghost use Rattle.std.specs.Prelude.{◌≡◌, ◌*◌, ◌+◌, false, length, map, string_bytes, true, vec_len, ℕ, Option};
 ghost use Rattle.hs_limits.specs.Shape.{IsShape};
 ghost use Rattle.hs_model.specs.declared.command.Command.{Command};
 ghost use Rattle.hs_ports.specs.Objects.{handed};
 ghost use Rattle.hs_promise.specs.Run.{ran_of, script_of};
+ghost use Rattle.hs_script.specs.CommandLine.{peers_of, second_disks};
 ghost use Rattle.hs_top.specs.Calls.{Does, IsCalled, RunsSo};
 ghost use Rattle.hs_top.specs.Words.{is_load, is_load_task, is_served};
 ghost use Rattle.hs_wanted.specs.Asked.{IsTask};
@@ -17,6 +18,7 @@ use hs_clauses::{
     a_run_is_answered, a_run_keeps, a_run_may_stop, a_run_stands, what_is_read_is_sealed,
 };
 use hs_desk::OpenGate;
+use hs_files::run_copy;
 use hs_limits::{Limits, Shape};
 use hs_ports::{Disk, Sink, Source, Watch};
 use hs_promise::{Outcome, Status};
@@ -93,7 +95,7 @@ fn do_task<A: Addresser, S: Source, K: Sink, D: Disk + Drop>(
     requires served { is_served task.now ≡ true }
     requires task { IsTask shape task.now }
     requires alone { is_load_task task.now ≡ false }
-    requires count { vec_len disks.old ≡ shape.shards * shape.copies }
+    requires count { vec_len disks.old ≡ peers_of shape + second_disks task.now }
     ensures does { Does D.tells (A.name naming.now) shape task.now
         (ran_of result
         (handed watch.old (map (λ disk. (D.stands disk, D.faults disk)) disks.old.items)
@@ -121,7 +123,18 @@ fn do_task<A: Addresser, S: Source, K: Sink, D: Disk + Drop>(
         Task::Fetch { key } => {
             give_file(alloc, naming, shape, key.as_slice(), sink, disks, watch)
         }
-        Task::Load { .. } | Task::Copy { .. } => closed(alloc, Status::Usage, 0),
+        Task::Copy {
+            key,
+            shape: second,
+            delete,
+            ..
+        } => {
+            let key = key.as_slice();
+            run_copy(
+                alloc, naming, shape, *second, key, *delete, sink, disks, watch,
+            )
+        }
+        Task::Load { .. } => closed(alloc, Status::Usage, 0),
     }
 }
 
@@ -163,8 +176,9 @@ fn run_words<A: Addresser, S: Source, K: Sink, D: Disk + Drop>(
 /// puts what is answered into the sink; `audit DIR G R`, which puts there what the logs of a store
 /// amount to; `scrub DIR G R`, which puts there whether the copies of each shard agree, and with
 /// `--from P` copies the list of a peer over the others of its shard; `store DIR G R KEY`, which stores
-/// what the source has as a file under a key; and `fetch DIR G R KEY`, which puts the file of a key into
-/// the sink. Other words are a faulty command line.
+/// what the source has as a file under a key; `fetch DIR G R KEY`, which puts the file of a key into the
+/// sink; and `copy DIR G R KEY DIR2 G2 R2`, which copies what a key keeps into a second store, whose disks
+/// come behind those of the first. Other words are a faulty command line.
 pub fn hydra_alone<A: Addresser, S: Source, K: Sink, D: Disk + Drop>(
     alloc: Global,
     words: &[String],

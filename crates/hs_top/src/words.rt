@@ -1,7 +1,7 @@
 //! The words of the command line.
 ghost use Rattle.std.specs.Prelude.{◌≡◌, IfSome, map, string_bytes, true};
 ghost use Rattle.hs_script.specs.CommandLine.{disks_of};
-ghost use Rattle.hs_top.specs.Words.{is_load, is_load_task, is_served, served_on, shape_in};
+ghost use Rattle.hs_top.specs.Words.{is_load, is_load_task, is_served, second_in, second_of, served_on, shape_in};
 ghost use Rattle.hs_wanted.specs.Asked.{IsInvocation};
 
 use hs_limits::Shape;
@@ -18,6 +18,30 @@ pub fn shape_of(words: &[String]) -> Option<Shape>
         Some(asked.shape)
     } else {
         None
+    }
+}
+
+/// The shape of the second store that the words ask for. None exactly where they are not those of
+/// `copy`.
+pub fn second_shape(words: &[String]) -> Option<Shape>
+    ensures { result ≡ second_in (map (λ word. string_bytes word) words.now) }
+{
+    let asked = invocation_of(words)?;
+    second_of(&asked.task)
+}
+
+/// The shape of the second store, where a copy is asked for.
+fn second_of(task: &Task<'_>) -> Option<Shape>
+    ensures { result ≡ second_of task.now }
+{
+    match task {
+        Task::Copy { shape, .. } => Some(*shape),
+        Task::Script { .. }
+        | Task::Load { .. }
+        | Task::Audit
+        | Task::Store { .. }
+        | Task::Fetch { .. }
+        | Task::Scrub { .. } => None,
     }
 }
 
@@ -52,8 +76,9 @@ fn is_served(task: &Task<'_>) -> bool
         | Task::Audit
         | Task::Store { .. }
         | Task::Fetch { .. }
-        | Task::Scrub { .. } => true,
-        Task::Script { .. } | Task::Copy { .. } => false,
+        | Task::Scrub { .. }
+        | Task::Copy { .. } => true,
+        Task::Script { .. } => false,
     }
 }
 
