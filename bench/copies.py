@@ -80,7 +80,7 @@ def copied(program, counter, script, least):
                               env={**os.environ, "LD_PRELOAD": counter, "LEAST": str(least)})
     if done.returncode != 0:
         sys.exit(f"{program} ended with {done.returncode}: {done.stderr.decode(errors='replace')[-500:]}")
-    told = [map(int, line.split()[1:]) for line in done.stderr.decode().splitlines()]
+    told = [map(int, line.split()[1:]) for line in done.stderr.decode().splitlines() if line.startswith("copied ")]
     return {at: (calls, size) for at, calls, size in told}
 
 

@@ -29,9 +29,9 @@ def script(data_bytes, writes):
     return ("\n".join(lines) + "\n").encode()
 
 
-def run(program, folder, text, shards, before=()):
-    """Runs the program on a folder, and gives its seconds."""
-    words = [*before, program, "script", folder, str(shards), "1"]
+def run(program, folder, text, shape, before=()):
+    """Runs the program on a folder of so many shards and copies, and gives its seconds."""
+    words = [*before, program, "script", folder, *map(str, shape)]
     start = time.perf_counter()
     done = subprocess.run(words, input=text, capture_output=True, check=False)
     seconds = time.perf_counter() - start
@@ -45,14 +45,14 @@ def run(program, folder, text, shards, before=()):
     return seconds
 
 
-def traced(program, parent, text, shards):
+def traced(program, parent, text, shape):
     """The syncs and written bytes of a run on the files of a new folder, and the bytes they hold."""
     with tempfile.TemporaryDirectory(dir=parent) as top:
         folder = os.path.join(top, "store")
         log = os.path.join(top, "trace")
         calls = "trace=" + ",".join(SYNCS + WRITES)
         # Each thread has a trace of its own, so that no call stands in two pieces.
-        run(program, folder, text, shards, ["strace", "-ff", "-y", "-qq", "-s", "0", "-e", calls, "-o", log])
+        run(program, folder, text, shape, ["strace", "-ff", "-y", "-qq", "-s", "0", "-e", calls, "-o", log])
         syncs = written = 0
         for call in side_calls(top, folder):
             if call.group(1) in SYNCS:
@@ -83,12 +83,12 @@ def sides(folder):
     return [name for name in os.listdir(folder) if ".side" in name] if os.path.isdir(folder) else []
 
 
-def speed(program, parent, text, shards, rounds):
+def speed(program, parent, text, shape, rounds):
     """The median of the lines a second, each run on a new folder."""
     rates = []
     for _ in range(rounds):
         with tempfile.TemporaryDirectory(dir=parent) as top:
-            rates.append(LINES / run(program, os.path.join(top, "store"), text, shards))
+            rates.append(LINES / run(program, os.path.join(top, "store"), text, shape))
     return statistics.median(rates)
 
 
@@ -103,8 +103,10 @@ def main():
     words.add_argument("--files", default=here, help="a folder on a real disk")
     words.add_argument("--memory", default="/dev/shm", help="a folder in memory")
     words.add_argument("--shards", type=int, default=1)
+    words.add_argument("--copies", type=int, default=1)
     words.add_argument("--rounds", type=int, default=5)
     asked = words.parse_args()
+    shape = (asked.shards, asked.copies)
     program = os.path.abspath(asked.program)
     if not os.access(program, os.X_OK):
         sys.exit(f"{program} is not built: bin/hydra --version builds it")
@@ -114,15 +116,15 @@ def main():
         data = data_bytes * (LINES - 1)
         print(f"blocks of {data_bytes} bytes, {data} in all:")
         if shutil.which("strace"):
-            opening = traced(program, asked.files, script(data_bytes, 0), asked.shards)[0]
-            syncs, written, held = traced(program, asked.files, text, asked.shards)
+            opening = traced(program, asked.files, script(data_bytes, 0), shape)[0]
+            syncs, written, held = traced(program, asked.files, text, shape)
             print(f"  syncs {syncs}, to make and open the store {opening}, an entry {ratio(syncs - opening, LINES - 1)}")
             print(f"  bytes written {written}, a byte of data {ratio(written, data)}")
             print(f"  bytes in the files {held}, a byte of data {ratio(held, data)}")
         else:
             print("  syncs and bytes: not measured, there is no strace")
-        files = speed(program, asked.files, text, asked.shards, asked.rounds)
-        memory = speed(program, asked.memory, text, asked.shards, asked.rounds)
+        files = speed(program, asked.files, text, shape, asked.rounds)
+        memory = speed(program, asked.memory, text, shape, asked.rounds)
         print(f"  lines a second: on files {files:.0f}, in memory {memory:.0f}, files to memory {ratio(files, memory)}")
 
 

@@ -36,7 +36,7 @@ class Store:
         child = self.start(stderr=subprocess.PIPE)
         out, errors = child.communicate(text_of(lines))
         seconds = time.perf_counter() - begun
-        if child.returncode != 0 or errors:
+        if child.returncode != 0 or beside_made(errors):
             wrong(f"status {child.returncode}: {errors}{out}")
         return answers_of(out), out, seconds
 
@@ -70,6 +70,11 @@ class Store:
         done = subprocess.run([*tool, *self.words], input=text_of(lines), text=True, stdout=subprocess.PIPE,
                               stderr=subprocess.DEVNULL, check=False)
         return answers_of(done.stdout), done.returncode == 0
+
+
+def beside_made(errors):
+    """What standard error has beside the line that a folder was made."""
+    return "".join(line for line in errors.splitlines(True) if not (line.startswith("hydra: the folder ") and line.endswith(" was made\n")))
 
 
 def text_of(lines):

@@ -14,7 +14,7 @@ import time
 
 from deletion_kills import deletion_kills
 from gifts import DELETING, KEPT_BY, Tree, after_kill, check_found, finding, gifts, swept_of
-from runs import Store, wrong
+from runs import Store, beside_made, wrong
 
 # How many trees a run that is killed writes, and how many are kept all the time.
 TREES = 12
@@ -184,7 +184,7 @@ def loads(program, top, count):
         folder = os.path.join(top, f"loaded{number}")
         words = [program, "load", folder, "4", "2", "--seed", "7", "--writers", "4"]
         first = subprocess.run(words, capture_output=True, text=True, check=False)
-        if (first.stdout, first.stderr, first.returncode) != (text, "", 0):
+        if (first.stdout, beside_made(first.stderr), first.returncode) != (text, "", 0):
             wrong(f"a load: {first.returncode} {first.stdout}{first.stderr}")
         told = subprocess.run([program, "audit", folder, "4", "2"], capture_output=True, text=True, check=False)
         if told.returncode != 0 or told.stdout.count(" garbage 0\n") != 4 or not told.stdout.endswith("audit ok\n"):

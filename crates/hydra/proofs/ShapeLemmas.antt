@@ -1,28 +1,28 @@
 -- Words that name a shape are run on as many disks as it has peers.
 use Rattle.std.proofs.Common.{◌≡◌, ◌∙◌, ℕ, ◌+◌, ◌*◌, ◌==◌, Bool, true, false, List, Option, Some, None, length, map, refl, subst, ap, arith}
 use Rattle.std.proofs.lemmas.Bool.{eq-eqb}
-use Rattle.std.specs.Option.{option_and_then, option_map, option_map_or}
+use Rattle.std.specs.Option.{option_and_then, option_map}
 use Rattle.std.specs.Prelude.{if◌then◌else◌}
 use Rattle.hs_script.specs.CommandLine.{disks_of, invocation_of, second_disks}
 use Rattle.hs_script.specs.declared.invocation.Invocation.{Invocation}
 use Rattle.hs_script.specs.declared.invocation.Task.{Task}
 use Rattle.hs_script.specs.declared.invocation.Task.TheVariants as task
 use Rattle.hs_top.proofs.CalledLemmas.{handed_count}
-use Rattle.hs_top.specs.Words.{is_served, served_on, shape_in, where_served}
-use Rattle.hydra.specs.CommandLine.{peers_in}
+use Rattle.hs_top.specs.Words.{is_served, second_of, served_on, shape_in, where_served}
+use Rattle.hydra.specs.CommandLine.{peers_in, peers_of}
 
 some_none : {X : Type 0} (x : X) → Some x ≡ None → ⊥
 some_none x is = absurd cc
 
--- what is served is run on the disks of one store
-one_store : (t : Task) → is_served t ≡ true → second_disks t ≡ 0
-one_store (task.Script limits visits cache) is = refl
-one_store (task.Load seed writers files) is = refl
-one_store task.Audit is = refl
-one_store (task.Store key) is = refl
-one_store (task.Fetch key) is = refl
-one_store (task.Scrub from) is = refl
-one_store (task.Copy key dir second delete) is = absurd cc
+-- the second store's disks
+seconds : (t : Task) → peers_of (second_of t) ≡ second_disks t
+seconds (task.Script limits visits cache) = refl
+seconds (task.Load seed writers files) = refl
+seconds task.Audit = refl
+seconds (task.Store key) = refl
+seconds (task.Fetch key) = refl
+seconds (task.Scrub from) = refl
+seconds (task.Copy key dir second delete) = refl
 
 module _ (n : ℕ) (a : Invocation) where
   unshaped : (o : Option Invocation) → option_map (λ asked. asked.shape) o ≡ None → o ≡ None
@@ -33,9 +33,9 @@ module _ (n : ℕ) (a : Invocation) where
   no_fit true none = none
   no_fit false none = refl
 
-  shaped : (served : Bool) → is_served a.task ≡ served → n ≡ option_map_or (λ shape. shape.shards * shape.copies) (option_map (λ asked. asked.shape) (if served then Some a else None)) 0
+  shaped : (served : Bool) → is_served a.task ≡ served → n ≡ peers_of (option_map (λ asked. asked.shape) (if served then Some a else None)) + peers_of (second_of a.task)
       → ((n == disks_of a) ≡ true → (if served then Some a else None) ≡ None) → option_map (λ asked. asked.shape) (if served then Some a else None) ≡ None
-  shaped true is same none = absurd (some_none a (none (eq-eqb n (disks_of a) (omega (arith, same, one_store a.task is)))))
+  shaped true is same none = absurd (some_none a (none (eq-eqb n (disks_of a) (omega (arith, same, seconds a.task)))))
   shaped false is same none = refl
 
   where_fit : (fits : Bool) → option_and_then where_served (if fits then Some a else None) ≡ None → fits ≡ true → where_served a ≡ None
@@ -55,7 +55,7 @@ no_shape words n none = go (invocation_of words) none
 pub no_run : (words : List (List ℕ)) (n : ℕ) → n ≡ peers_in words → served_on words n ≡ None → shape_in words ≡ None
 no_run words n same none = go (invocation_of words) same none
   where
-    go : (o : Option Invocation) → n ≡ option_map_or (λ shape. shape.shards * shape.copies) (option_map (λ asked. asked.shape) (option_and_then where_served o)) 0
+    go : (o : Option Invocation) → n ≡ peers_of (option_map (λ asked. asked.shape) (option_and_then where_served o)) + peers_of (option_and_then (λ asked. second_of asked.task) o)
         → option_and_then where_served (option_and_then (λ asked. if n == disks_of asked then Some asked else None) o) ≡ None
         → option_map (λ asked. asked.shape) (option_and_then where_served o) ≡ None
     go None m h = refl

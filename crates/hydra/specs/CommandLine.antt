@@ -1,7 +1,8 @@
 -- What the words of the command line ask for.
-use Rattle.std.specs.Prelude.{◌≡◌, ℕ, ◌*◌, if◌then◌else◌, List, [], ◌∷◌, None, bytes_eq, codes}
+use Rattle.std.specs.Prelude.{◌≡◌, ℕ, ◌+◌, ◌*◌, if◌then◌else◌, List, [], ◌∷◌, None, Option, bytes_eq, codes}
 use Rattle.std.specs.Option.{option_map_or}
-use Rattle.hs_top.specs.Words.{shape_in}
+use Rattle.hs_limits.specs.declared.shape.Shape.{Shape}
+use Rattle.hs_top.specs.Words.{second_in, shape_in}
 use Rattle.hydra.specs.declared.command_line.Request.{Request}
 use Rattle.hydra.specs.declared.command_line.Request.TheVariants.{Help, Version, Run}
 
@@ -16,6 +17,10 @@ pub record IsFaulty (words : List (List ℕ)) : Type 0 where
   pub run : request_in words ≡ Run
   pub no_shape : shape_in words ≡ None
 
--- how many peers a store of the shape that they name has, and 0 where they name none
+-- how many peers a store of a shape has, and 0 where there is none
+abbrev pub peers_of : Option Shape → ℕ
+peers_of shape = option_map_or (λ shape. shape.shards * shape.copies) shape 0
+
+-- how many peers the stores have that they name: one, or two where a root is copied
 abbrev pub peers_in : List (List ℕ) → ℕ
-peers_in words = option_map_or (λ shape. shape.shards * shape.copies) (shape_in words) 0
+peers_in words = peers_of (shape_in words) + peers_of (second_in words)

@@ -1,5 +1,5 @@
 -- What the program says of words that are outside the command language.
-use Rattle.std.specs.Prelude.{ℕ, not, if◌then◌else◌, List, [], ◌∷◌, Option, Some, None, bytes_eq, codes}
+use Rattle.std.specs.Prelude.{ℕ, if◌then◌else◌, List, [], ◌∷◌, Option, Some, None, bytes_eq, codes}
 use Rattle.std.specs.List.{list_any}
 use Rattle.hs_limits.specs.declared.shape.Shape.{Shape}
 use Rattle.hs_top.specs.Words.{shape_in}
@@ -13,15 +13,9 @@ later_option words =
     else if list_any (λ word. bytes_eq word (codes "--cache")) words then Some later.Cache
     else None
 
--- a command that a later step serves
-unfoldable pub later_command : List ℕ → Option Later
-later_command command = if bytes_eq command (codes "copy") then Some later.Copy else None
-
--- the first of these that a later step serves: the command, or an option of a script
+-- an option of a script that a later step serves
 unfoldable pub later_part : List ℕ → List (List ℕ) → Option Later
-later_part command options =
-    if not (bytes_eq command (codes "script")) then later_command command
-    else later_option options
+later_part command options = if bytes_eq command (codes "script") then later_option options else None
 
 -- the first part of the words that a later step serves
 abbrev pub later_in : List (List ℕ) → Option Later
@@ -31,7 +25,6 @@ later_in other = None
 -- the line on standard error of words outside the language
 abbrev pub later_text : Option Later → List ℕ
 later_text None = codes "hydra: see hydra --help\n"
-later_text (Some later.Copy) = codes "hydra: copy is not served yet: see hydra --help\n"
 later_text (Some later.Visits) = codes "hydra: --visits is not served yet: see hydra --help\n"
 later_text (Some later.Cache) = codes "hydra: --cache is not served yet: see hydra --help\n"
 

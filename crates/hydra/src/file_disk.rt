@@ -5,6 +5,7 @@ ghost use Rattle.hydra.specs.SideFault.{fault_in, is_faulty};
 
 use crate::fault_count::FaultCount;
 use crate::file_fault::{Deed, FileFault, SideFault};
+use crate::found_files::{HEAD, is_foreign};
 use crate::side_file::SideFile;
 use hs_ports::{Disk, PortFault, Side, Watch};
 use std::alloc::Global;
@@ -24,6 +25,10 @@ pub struct FileDisk<F> {
     count: FaultCount,
     /// Whether there are no files since another run has them.
     pub is_taken: bool,
+    /// Whether side zero was made when it was opened.
+    pub is_new: bool,
+    /// Whether side zero has bytes that are of no log, and a run makes a log of it.
+    pub is_foreign: bool,
 }
 
 impl<F: FileExt + OpenFile + Seek + Drop> FileDisk<F> {
@@ -44,6 +49,8 @@ impl<F: FileExt + OpenFile + Seek + Drop> FileDisk<F> {
                 one: SideFile::new(one, one_len),
                 count: FaultCount::new(),
                 is_taken: false,
+                is_new: false,
+                is_foreign: false,
             },
             (Err(reason), _) => FileDisk::failed(Side::Zero, Deed::Open, reason),
             (_, Err(reason)) => FileDisk::failed(Side::One, Deed::Open, reason),
@@ -62,6 +69,8 @@ impl<F: FileExt + OpenFile + Seek + Drop> FileDisk<F> {
             one: SideFile::absent(None),
             count: FaultCount::new(),
             is_taken,
+            is_new: false,
+            is_foreign: false,
         }
     }
 
@@ -84,6 +93,8 @@ impl<F: FileExt + OpenFile + Seek + Drop> FileDisk<F> {
             one: SideFile::absent(one),
             count: FaultCount::new(),
             is_taken: false,
+            is_new: false,
+            is_foreign: false,
         }
     }
 
@@ -127,6 +138,20 @@ impl<F: FileExt + OpenFile + Seek + Drop> FileDisk<F> {
     {
         self.count.faults
     }
+
+    /// Whether one of its files is not empty.
+    pub fn has_bytes(&self) -> bool {
+        self.zero.len > 0 || self.one.len > 0
+    }
+
+    /// The first bytes of both files, as many as a head has at most.
+    pub fn fronts(&mut self, alloc: Global) -> (Vec<u8>, Vec<u8>) {
+        let mut zero = Vec::new(alloc);
+        let mut one = Vec::new(alloc);
+        let _ = self.zero.read(0, HEAD, &mut zero);
+        let _ = self.one.read(0, HEAD, &mut one);
+        (zero, one)
+    }
 }
 
 /// The disk of a peer: the files `peerP.side0` and `peerP.side1` of a folder, which are made where
@@ -145,8 +170,8 @@ pub fn open_disk<R: Files<File = File>>(
         Ok(held) => held,
         Err(reason) => return FileDisk::failed(Side::Zero, Deed::Open, reason),
     };
-    let zero = match open_side(rt, alloc, dir, peer, 0, makes) {
-        Ok(zero) => zero,
+    let (zero, is_new) = match open_side(rt, alloc, dir, peer, 0, makes) {
+        Ok(opened) => opened,
         Err(reason) => return FileDisk::failed(Side::Zero, Deed::Open, reason),
     };
     // The lock comes before the lengths are read: until then another run may change them.
@@ -160,7 +185,13 @@ pub fn open_disk<R: Files<File = File>>(
     let one = open_side(rt, alloc, dir, peer, 1, makes);
     drop(held);
     match one {
-        Ok(one) => FileDisk::new(Some((zero, one))),
+        Ok((one, _)) => {
+            let mut disk = FileDisk::new(Some((zero, one)));
+            disk.is_new = is_new;
+            let (zero, one) = disk.fronts(alloc);
+            disk.is_foreign = is_foreign(&zero, &one);
+            disk
+        }
         Err(reason) => FileDisk::failed(Side::One, Deed::Open, reason),
     }
 }
@@ -175,6 +206,7 @@ fn hold_streams<R: Files<File = File>>(rt: &R) -> io::Result<(File, Option<(File
     Ok((first, Some((fs::open(rt, "/")?, fs::open(rt, "/")?))))
 }
 
+// The file of a side, and whether it was made.
 fn open_side<R: Files<File = File>>(
     rt: &R,
     alloc: Global,
@@ -182,11 +214,18 @@ fn open_side<R: Files<File = File>>(
     peer: usize,
     side: u8,
     makes: bool,
-) -> io::Result<File> {
+) -> io::Result<(File, bool)> {
     let path = format!(in alloc; "{dir}/peer{peer}.side{side}")?;
     let mut options = OpenOptions::new();
-    options.read(true).write(true).create(makes);
-    options.open(rt, path.as_str())
+    options.read(true).write(true);
+    match options.open(rt, path.as_str()) {
+        Ok(file) => Ok((file, false)),
+        Err(reason) if makes && reason.kind() == io::ErrorKind::NotFound => {
+            options.create(true);
+            Ok((options.open(rt, path.as_str())?, true))
+        }
+        Err(reason) => Err(reason),
+    }
 }
 
 impl<F: FileExt + OpenFile> Disk for FileDisk<F> {

@@ -15,7 +15,7 @@ reads. A root keeps a block under a key, and with it all that the block points
 to, block by block. A deletion gives back the space of what no root keeps and no
 session has been given lately.
 
-Six commands are served so far:
+Seven commands are served:
 
   hydra script DIR G R [options]
   hydra load DIR G R --seed S --writers W [--files F]
@@ -23,8 +23,7 @@ Six commands are served so far:
   hydra fetch DIR G R KEY
   hydra audit DIR G R
   hydra scrub DIR G R [--from P]
-
-Not served yet: copy.
+  hydra copy DIR G R KEY DIR2 G2 R2 [--delete N]
 
 A script is read from standard input, and the answers go to standard output.
 G is the number of shards among which the blocks are parted: 1, 2, 4 or 8. R is
@@ -75,6 +74,14 @@ not the same. It makes no file, and without an option it writes none. With --fro
 P it then empties the other copies of the shard of copy P and gives them what P
 has; a copy whose files fail meanwhile has one line more. Scrub again to see what
 came of it.
+
+A copy puts the root of KEY, with all blocks that it reaches, at most 4,000, into
+the store of DIR2, whose G2 and R2 may be others: blocks that are there already
+are kept once, and nothing else is written there. It prints `copied` and how many
+blocks they are. The first store keeps what it has. With --delete N, 1 to 1000, a
+deletion is begun in the second behind every so many writes, four at most. Where
+it ends otherwise the second may have some of the blocks, and KEY there keeps what
+it kept, or all: do it again.
 
 An option of a script is a name and a number, and lowers a limit of the run: each
 at most once, in any order, with a number from 1 to the greatest, which is the
@@ -137,12 +144,13 @@ script, and beside it what is printed on a new DIR:
 A block that no root keeps goes with the second deletion behind its last write:
 the first one leaves what sessions may still be about to point to.
 
-Exit statuses. Each but 0 has its line on standard error, and before it may stand
-another: the file that failed and why, which word is not served yet, or what is
-wrong with the line of a script.
+Exit statuses. Each but 0 has its line on standard error, which is the last one.
+Before it stands what else there is to tell: a folder or a file that was made, a
+file that failed and why, or is no log, which word is wrong, what is wrong with
+the line of a script, and which line of it has no answer.
 
-   0  the script was read to its end; the file is stored, or was printed; or an
-      audit or a scrub was printed, whatever it says
+   0  the script was read to its end; the file is stored, or was printed; the root
+      is copied; or an audit or a scrub was printed, whatever it says
    2  the words are not those of a command
    3  a line is not in the script language; the lines before it were run
    4  a shard has no peer left: each of its disks failed or is no log of a store,
@@ -158,14 +166,21 @@ wrong with the line of a script.
   12  the store that is to be loaded is not empty
   13  the input is too long: a script above 4,294,967,296 bytes, a file above
       67,108,864
-  14  a store or a fetch was refused, as its line says: the key keeps another
-      file, or none; or the store has no room
+  14  a store, a fetch or a copy was refused, as its line says: the key keeps
+      something else, or nothing; or the store has no room
   15  the key keeps a block that is no stored file
   16  the copy that --from names has no log, or its files failed; nothing was
       written
+  17  the root to be copied reaches more than 4,000 blocks
  126  of the launcher bin/hydra: the program could not be proved or built
  127  of the launcher: the command rt of the Rattle kit is not on the path
  130  of the launcher: the building was interrupted
+
+The launcher bin/hydra takes these words too, before all others:
+
+  --try WORDS      runs the words unproved, in a new folder that is thrown away
+  --from FILE      takes a program that was proved elsewhere, with FILE.proved
+  --record LINE    prints what stands in FILE.proved; LINE is the last of the gate
 
 A damaged disk: a log has no checksum. A bit that flips in a block's data gives
 the block another address at the next opening: a read of the old one has no data,

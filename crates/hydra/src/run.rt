@@ -1,26 +1,35 @@
 //! A run of the program: its words, its input and output, and how it ended.
-ghost use Rattle.std.specs.Prelude.{◌≡◌, ◌≢◌, None, IfOk, IsTrue, OnOk, map, string_bytes, vec_len};
+ghost use Rattle.std.specs.Prelude.{◌≡◌, ◌≢◌, None, OnOk, map, string_bytes};
 ghost use Rattle.std.specs.Io.KnownBytes.{Appends};
-ghost use Rattle.std.specs.List.{list_all, list_any};
+ghost use Rattle.std.specs.List.{list_any};
 ghost use Rattle.hs_ports.specs.Objects.{handed};
 ghost use Rattle.hs_promise.specs.Run.{ran_of};
 ghost use Rattle.hs_top.specs.Calls.{IsCalled};
 ghost use Rattle.hs_top.specs.Status.{fault_text};
 ghost use Rattle.hs_top.specs.Words.{shape_in};
-ghost use Rattle.hydra.specs.CommandLine.{IsFaulty, peers_in};
+ghost use Rattle.hydra.specs.CommandLine.{IsFaulty};
 ghost use Rattle.hydra.specs.Taken.{taken_text};
 
 use crate::bad_line::{BadCause, first_cause, tell_cause};
 use crate::command_line::{Request, request_of, words_of};
-use crate::file_disk::{FileDisk, open_disk};
+use crate::file_disk::FileDisk;
+use crate::found_files::{tell_folder, tell_foreign, tell_made, tell_same};
 use crate::help::{HELP, VERSION};
+use crate::lost_disks::{tell_no_logs, tell_store};
 use crate::notes::{note_of, tell_file};
+use crate::stores::{
+    dir_of, disks_of, first_count, is_any_taken, made_dir_of, makes_files, second_dir_of,
+    writes_files,
+};
 use crate::streams::{ReaderSource, WriterSink};
-use crate::usage::tell_usage;
+use crate::unanswered::tell_unanswered;
+use crate::usage::{is_later, tell_usage};
+use crate::wrong_word::{tell_word, wrong_word};
 use hs_block::{Addresser, ShaNames};
+use hs_limits::Shape;
 use hs_ports::{Disk, Sink, Source, Watch};
 use hs_promise::{Outcome, Status};
-use hs_top::{fault_line, hydra, hydra_alone, is_load, shape_of};
+use hs_top::{fault_line, hydra, hydra_alone, is_load, second_shape, shape_of};
 use std::alloc::{AllocError, Global};
 use std::fs::File;
 use std::io::{ErrorKind, Read, Write};
@@ -41,6 +50,7 @@ where
     match words_of(rt) {
         Ok(words) => answer(rt, &words, input, output, errors),
         Err(error) if error.kind() == ErrorKind::InvalidData => {
+            let _ = errors.write_all(b"hydra: a word is not text\n");
             let _ = tell_usage(errors, &[]);
             Status::Usage
         }
@@ -61,21 +71,24 @@ where
         → IsFaulty (map (λ word. string_bytes word) words.now) }
 {
     match request_of(words) {
-        Request::Help => print(&mut output, HELP),
-        Request::Version => print(&mut output, VERSION),
+        Request::Help => print(rt.alloc(), &mut output, errors, HELP),
+        Request::Version => print(rt.alloc(), &mut output, errors, VERSION),
         Request::Run => serve(rt, words, input, output, errors),
     }
 }
 
 // Writes a text whole.
-fn print<O: Write>(output: &mut O, text: &str) -> Status
+fn print<O: Write, E: Write>(alloc: Global, output: &mut O, errors: &mut E, text: &str) -> Status
     ensures done { result ≡ Status.Done
         → Appends (O.contents output.old) (O.contents output.new) text.now }
     ensures only { result ≢ Status.Done → result ≡ Status.WriteFault }
 {
     match output.write_all(text.as_bytes()) {
         Ok(()) => Status::Done,
-        Err(_) => Status::WriteFault,
+        Err(reason) => {
+            let _ = tell_stream(alloc, errors, "output can't be written", Some(reason));
+            Status::WriteFault
+        }
     }
 }
 
@@ -95,11 +108,14 @@ where
     let Ok(mut source) = ReaderSource::new(alloc, input) else {
         return Status::NoMemory;
     };
+    let lacked = lacks_folder(rt, words);
     let Ok(mut disks) = disks_of(rt, alloc, words) else {
         return Status::NoMemory;
     };
-    let _ = tell_usage(errors, words);
+    let _ = tell_words(alloc, errors, words);
     let _ = tell_taken(errors, &disks);
+    let is_made = lacked && !lacks_folder(rt, words);
+    let _ = tell_before(alloc, errors, words, &disks, is_made);
     let mut sink = WriterSink::new(output);
     let mut watch = Watch::new();
     let outcome = do_words(
@@ -112,11 +128,128 @@ where
         &mut disks,
         &mut watch,
     );
-    if let Ok(note) = note_of(alloc, &disks) {
-        let _ = tell_file(alloc, errors, dir_of(words), &note);
-    }
+    let _ = tell_behind(alloc, errors, words, &mut disks, &mut watch, &outcome);
+    let _ = tell_stream(alloc, errors, "input can't be read", source.reason);
+    let _ = tell_stream(alloc, errors, "output can't be written", sink.reason);
     let _ = tell_cause(errors, cause_of_end(&outcome.status, &source));
     outcome.status
+}
+
+// Whether the words ask for a folder to be made, and there is none.
+fn lacks_folder<R: Files<File = File>>(rt: &R, words: &[String]) -> bool {
+    let is_there = match fs::exists(rt, made_dir_of(words)) {
+        Ok(is_there) => is_there,
+        Err(_) => true,
+    };
+    let makes = makes_files(words) || second_shape(words).is_some();
+    !is_there && makes && shape_of(words).is_some()
+}
+
+// Tells of words that are outside the language: which one is wrong, and where all are told.
+fn tell_words<E: Write>(alloc: Global, errors: &mut E, words: &[String]) -> io::Result<()> {
+    if shape_of(words).is_none() && !is_later(words) {
+        if let Some((fault, word)) = wrong_word(words) {
+            tell_word(alloc, errors, fault, word)?;
+        }
+    }
+    tell_usage(errors, words)
+}
+
+// Tells of the folder and its files what is to be known before a run writes there.
+fn tell_before<E: Write>(
+    alloc: Global,
+    errors: &mut E,
+    words: &[String],
+    disks: &[FileDisk<File>],
+    is_made: bool,
+) -> io::Result<()> {
+    let dir = dir_of(words);
+    if is_made {
+        tell_folder(alloc, errors, made_dir_of(words))?;
+    }
+    if second_shape(words).is_some() && second_dir_of(words) == dir {
+        tell_same(alloc, errors, dir)?;
+    }
+    let (first, second) = disks.split_at(first_count(words, disks.len()));
+    tell_found(alloc, errors, words, dir, first)?;
+    tell_found(alloc, errors, words, second_dir_of(words), second)
+}
+
+// Tells of the files of a store what is to be known before a run writes there.
+fn tell_found<E: Write>(
+    alloc: Global,
+    errors: &mut E,
+    words: &[String],
+    dir: &str,
+    disks: &[FileDisk<File>],
+) -> io::Result<()> {
+    tell_made(alloc, errors, dir, disks)?;
+    if writes_files(words) {
+        tell_foreign(alloc, errors, dir, disks)?;
+    }
+    Ok(())
+}
+
+// Tells of a run that has ended what its status leaves open.
+fn tell_behind<E: Write>(
+    alloc: Global,
+    errors: &mut E,
+    words: &[String],
+    disks: &mut [FileDisk<File>],
+    watch: &mut Watch,
+    outcome: &Outcome,
+) -> io::Result<()> {
+    let (first, second) = disks.split_at_mut(first_count(words, disks.len()));
+    if let Some(shape) = shape_of(words) {
+        tell_disks(alloc, errors, dir_of(words), shape, first, watch, outcome)?;
+    }
+    if let Some(shape) = second_shape(words) {
+        tell_disks(
+            alloc,
+            errors,
+            second_dir_of(words),
+            shape,
+            second,
+            watch,
+            outcome,
+        )?;
+    }
+    tell_store(alloc, errors, &outcome.status)?;
+    if second_shape(words).is_some() {
+        return Ok(());
+    }
+    tell_unanswered(alloc, errors, outcome)
+}
+
+// Tells of the disks of a store which file failed, and which are no log.
+fn tell_disks<E: Write>(
+    alloc: Global,
+    errors: &mut E,
+    dir: &str,
+    shape: Shape,
+    disks: &mut [FileDisk<File>],
+    watch: &mut Watch,
+    outcome: &Outcome,
+) -> io::Result<()> {
+    if let Ok(note) = note_of(alloc, disks) {
+        tell_file(alloc, errors, dir, &note)?;
+    }
+    tell_no_logs(alloc, errors, dir, shape, disks, watch, outcome)
+}
+
+// Tells why a stream failed, where it did.
+fn tell_stream<E: Write>(
+    alloc: Global,
+    errors: &mut E,
+    what: &str,
+    reason: Option<io::Error>,
+) -> io::Result<()> {
+    let Some(reason) = reason else {
+        return Ok(());
+    };
+    let mut line = Vec::new(alloc);
+    write!(line, "hydra: standard {what}: {reason}\n")?;
+    errors.write_all(&line)
 }
 
 // Does what the words ask for: a load by threads, and every other command without, so that it returns.
@@ -161,97 +294,6 @@ fn cause_of_end<I: Read + Drop>(status: &Status, source: &ReaderSource<I>) -> Op
     }
 }
 
-// The folder that the words name.
-fn dir_of(words: &[String]) -> &str {
-    match words {
-        [_, dir, ..] => dir.as_str(),
-        _ => "",
-    }
-}
-
-/// The disks of the peers under the folder that the words name, which a script, a load and a store make
-/// where it is absent, and nothing else; none where they name no shape.
-pub fn disks_of<R: Files<File = File>>(
-    rt: &R,
-    alloc: Global,
-    words: &[String],
-) -> Result<Vec<FileDisk<File>>, AllocError>
-    ensures count { IfOk result (λ disks.
-        vec_len disks ≡ peers_in (map (λ word. string_bytes word) words.now)) }
-    ensures whole { IfOk result (λ disks.
-        IsTrue (list_any (λ disk. disk.is_taken) disks.items)
-        → IsTrue (list_all (λ disk. disk.is_taken) disks.items)) }
-{
-    match shape_of(words) {
-        Some(shape) => {
-            let dir = dir_of(words);
-            let makes = makes_files(words);
-            let made = if makes {
-                fs::create_dir_all(rt, dir).err()
-            } else {
-                None
-            };
-            let peers = usize::from(shape.shards) * usize::from(shape.copies);
-            open_disks(rt, alloc, dir, makes, made, peers)
-        }
-        None => Ok(Vec::new(alloc)),
-    }
-}
-
-// Whether the words begin with a command that makes files.
-fn makes_files(words: &[String]) -> bool {
-    match words {
-        [command, ..] => {
-            command.as_bytes() == b"script".as_slice()
-                || command.as_bytes() == b"load".as_slice()
-                || command.as_bytes() == b"store".as_slice()
-        }
-        [] => false,
-    }
-}
-
-// The disks of this many peers under a folder, with why it could not be made. Where another run has
-// one, it counts as having all: else each of two runs might go on with a part of them.
-fn open_disks<R: Files<File = File>>(
-    rt: &R,
-    alloc: Global,
-    dir: &str,
-    makes: bool,
-    made: Option<io::Error>,
-    peers: usize,
-) -> Result<Vec<FileDisk<File>>, AllocError>
-    ensures count { IfOk result (λ disks. vec_len disks ≡ peers) }
-    ensures whole { IfOk result (λ disks.
-        IsTrue (list_any (λ disk. disk.is_taken) disks.items)
-        → IsTrue (list_all (λ disk. disk.is_taken) disks.items)) }
-{
-    let mut disks = Vec::new(alloc);
-    for peer in 0..peers {
-        let mut disk = open_disk(rt, alloc, dir, peer, makes);
-        if disk.is_taken {
-            return taken_disks(alloc, peers);
-        }
-        if let Some(reason) = made {
-            disk.blame_folder(reason);
-        }
-        disks.push(disk)?;
-    }
-    Ok(disks)
-}
-
-// This many disks that another run has.
-#[tactic(auto, using(crate::proofs::TakenLemmas::all_pushed))]
-fn taken_disks(alloc: Global, peers: usize) -> Result<Vec<FileDisk<File>>, AllocError>
-    ensures count { IfOk result (λ disks. vec_len disks ≡ peers) }
-    ensures all { IfOk result (λ disks. IsTrue (list_all (λ disk. disk.is_taken) disks.items)) }
-{
-    let mut disks = Vec::new(alloc);
-    for _ in 0..peers {
-        disks.push(FileDisk::absent(true))?;
-    }
-    Ok(disks)
-}
-
 /// Writes the line that another run has the folder, where it has.
 pub fn tell_taken<E: Write>(errors: &mut E, disks: &[FileDisk<File>]) -> io::Result<()>
     ensures ok { OnOk result (Appends (E.contents errors.old) (E.contents errors.new)
@@ -262,13 +304,6 @@ pub fn tell_taken<E: Write>(errors: &mut E, disks: &[FileDisk<File>]) -> io::Res
     } else {
         errors.write_all(b"")
     }
-}
-
-// Whether another run has one of the disks.
-fn is_any_taken(disks: &[FileDisk<File>]) -> bool
-    ensures { result ≡ list_any (λ disk. disk.is_taken) disks.now }
-{
-    disks.iter().any(|disk| disk.is_taken)
 }
 
 /// Writes the line of a status, and nothing for `Done`. Without memory for it, it writes that

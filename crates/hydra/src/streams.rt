@@ -7,6 +7,7 @@ use crate::fault_count::FaultCount;
 use crate::retry::{read_some, write_some};
 use hs_ports::{PortFault, Sink, Source, Watch};
 use std::alloc::{AllocError, Global};
+use std::io;
 use std::io::{Read, Write};
 
 /// The most bytes that one call reads.
@@ -28,6 +29,8 @@ pub struct ReaderSource<R> {
     at: usize,
     is_round: bool,
     count: FaultCount,
+    /// Why the last call failed that did, as the system says.
+    pub reason: Option<io::Error>,
     ghost some: { at < length ring.items },
 }
 
@@ -43,6 +46,7 @@ impl<R: Read + Drop> ReaderSource<R> {
             at: 0,
             is_round: false,
             count: FaultCount::new(),
+            reason: None,
         })
     }
 
@@ -82,6 +86,7 @@ fn take_through<R: Read>(
     at: usize,
     max: usize,
     into: &mut Vec<u8>,
+    reason: &mut Option<io::Error>,
 ) -> Result<usize, PortFault>
     requires place { at < length ring.old.items }
     requires max { 0 < max }
@@ -95,7 +100,7 @@ fn take_through<R: Read>(
     ensures same_size { length ring.new.items ≡ length ring.old.items }
 {
     let most = max.min(PIECE).min(ring.len() - at);
-    take_piece(reader, &mut ring[at..at + most], into)
+    take_piece(reader, &mut ring[at..at + most], into, reason)
 }
 
 // Reads into the piece, and appends what it got, or nothing.
@@ -104,6 +109,7 @@ fn take_piece<R: Read>(
     reader: &mut R,
     piece: &mut [u8],
     into: &mut Vec<u8>,
+    reason: &mut Option<io::Error>,
 ) -> Result<usize, PortFault>
     requires { 0 < length piece.old }
     ensures taken { IfOk result (λ n.
@@ -122,7 +128,10 @@ fn take_piece<R: Read>(
             Ok(()) => Ok(n),
             Err(_) => unreachable!(),
         },
-        Err(_) => Err(PortFault::Failed),
+        Err(error) => {
+            *reason = Some(error);
+            Err(PortFault::Failed)
+        }
     }
 }
 
@@ -134,7 +143,14 @@ impl<R: Read> Source for ReaderSource<R> {
     ghost faults = { λ s. s.count.faults };
 
     fn take(&mut self, max: usize, into: &mut Vec<u8>) -> Result<usize, PortFault> {
-        let answer = take_through(&mut self.reader, &mut self.ring, self.at, max, into);
+        let answer = take_through(
+            &mut self.reader,
+            &mut self.ring,
+            self.at,
+            max,
+            into,
+            &mut self.reason,
+        );
         if let Ok(n) = answer {
             self.at += n;
             if self.at == self.ring.len() && (self.is_round || !grow(&mut self.ring)) {
@@ -151,6 +167,8 @@ impl<R: Read> Source for ReaderSource<R> {
 pub struct WriterSink<W> {
     writer: W,
     count: FaultCount,
+    /// Why the last call failed that did, as the system says.
+    pub reason: Option<io::Error>,
 }
 
 impl<W: Write> WriterSink<W> {
@@ -161,6 +179,7 @@ impl<W: Write> WriterSink<W> {
         WriterSink {
             writer,
             count: FaultCount::new(),
+            reason: None,
         }
     }
 
@@ -173,7 +192,11 @@ impl<W: Write> WriterSink<W> {
 }
 
 // Puts a front of the piece, at least one byte of it.
-fn put_into<W: Write>(writer: &mut W, piece: &[u8]) -> Result<usize, PortFault>
+fn put_into<W: Write>(
+    writer: &mut W,
+    piece: &[u8],
+    reason: &mut Option<io::Error>,
+) -> Result<usize, PortFault>
     ensures some { IfOk result (λ n. 0 < n) }
     ensures within { IfOk result (λ n. n ≤ length piece.now) }
     ensures taken { IfOk result (λ n.
@@ -182,7 +205,10 @@ fn put_into<W: Write>(writer: &mut W, piece: &[u8]) -> Result<usize, PortFault>
 {
     match write_some(writer, piece) {
         Ok(n) => Ok(n),
-        Err(_) => Err(PortFault::Failed),
+        Err(error) => {
+            *reason = Some(error);
+            Err(PortFault::Failed)
+        }
     }
 }
 
@@ -198,7 +224,7 @@ impl<W: Write> Sink for WriterSink<W> {
         if piece.is_empty() {
             return Ok(0);
         }
-        let answer = put_into(&mut self.writer, piece);
+        let answer = put_into(&mut self.writer, piece, &mut self.reason);
         self.count.counted(answer)
     }
 }

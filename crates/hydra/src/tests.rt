@@ -1,10 +1,15 @@
 //! What no clause and no case says of the adapters: which bytes reach a file and come back, calls
-//! that fail or are interrupted, who has the files of a folder, and which cause a bad line has.
+//! that fail or are interrupted, who has the files of a folder, which cause a bad line has, which word
+//! is wrong, and which line has no answer.
 ghost use Rattle.std.specs.Prelude.{◌<◌};
 
 use crate::bad_line::{BadCause, cause_of, first_cause};
 use crate::file_disk::{FileDisk, open_disk};
+use crate::found_files::is_foreign;
 use crate::streams::{ReaderSource, WriterSink};
+use crate::unanswered::{Unanswered, without_answer};
+use crate::wrong_word::{WordFault, wrong_word};
+use hs_model::CourseItem;
 use hs_ports::{Disk, PortFault, Side, Sink, Source, Watch};
 use std::alloc::{AllocError, Global};
 use std::cell::Cell;
@@ -323,4 +328,72 @@ const SCRIPT: &[u8] = b"\n# a\r\nopen a\nwrite a 6a\nwrite a - h0 h1\nread a h0\
 fn the_first_bad_line_has_the_cause(rt: HostRuntime) {
     assert!(rt; first_cause(SCRIPT, false) == Some(BadCause::Verb));
     assert!(rt; first_cause(b"ead a h0\nstat 1", true) == Some(BadCause::ManyWords));
+}
+
+/// Words, each with what is wrong with them, and the word at which.
+const WORDS: &[(&str, WordFault, &str)] = &[
+    ("scrpt d 1 1", WordFault::Command, "scrpt"),
+    ("script", WordFault::NoFolder, ""),
+    ("script d", WordFault::NoShards, ""),
+    ("script d 3 1", WordFault::Shards, "3"),
+    ("script d 1", WordFault::NoCopies, ""),
+    ("script d 1 0", WordFault::Copies, "0"),
+    ("store d 1 1", WordFault::NoKey, ""),
+    ("fetch d 1 1 K", WordFault::Key, "K"),
+    ("audit d 1 1 --from 0", WordFault::Unknown, "--from"),
+    (
+        "script d 1 1 --ops 2 --roots 3 --ops 2",
+        WordFault::Twice,
+        "--ops",
+    ),
+    ("script d 1 1 --ops", WordFault::NoValue, "--ops"),
+    (
+        "scrub d 2 2 --from 4",
+        WordFault::Value { least: 0, most: 3 },
+        "--from",
+    ),
+    ("load d 1 1 --writers 1", WordFault::NoSeed, ""),
+    ("load d 1 1 --seed 1", WordFault::NoWriters, ""),
+];
+
+// The words of a line.
+fn words_in(alloc: Global, text: &str) -> Result<Vec<String>, AllocError> {
+    let mut words = Vec::new(alloc);
+    for word in text.split(' ') {
+        words.push(format!(in alloc; "{word}")?)?;
+    }
+    Ok(words)
+}
+
+#[test]
+fn a_wrong_word_is_named(rt: HostRuntime) -> Result<(), AllocError> {
+    for (text, fault, word) in WORDS {
+        let words = words_in(rt.alloc(), text)?;
+        assert!(rt; wrong_word(&words) == Some((*fault, *word)));
+    }
+    Ok(())
+}
+
+/// Two lines that were begun, and what became of a peer between.
+const COURSE: &[CourseItem] = &[
+    CourseItem::Begun { line: 2, moment: 1 },
+    CourseItem::Good { peer: 3, moment: 1 },
+    CourseItem::Begun { line: 3, moment: 2 },
+    CourseItem::Begun { line: 5, moment: 2 },
+];
+
+#[test]
+fn the_first_line_without_an_answer_is_told(rt: HostRuntime) {
+    assert!(rt; without_answer(COURSE, &[2, 3, 5]) == None);
+    assert!(rt; without_answer(COURSE, &[2]) == Some(Unanswered { line: 3, more: 1 }));
+}
+
+#[test]
+fn what_making_a_log_leaves_is_not_foreign(rt: HostRuntime) {
+    assert!(rt; is_foreign(b"x", b""));
+    assert!(rt; !is_foreign(b"", b""));
+    assert!(rt; !is_foreign(b"\0HS", b""));
+    assert!(rt; is_foreign(b"\xa5HSL1", b""));
+    assert!(rt; !is_foreign(b"\xa5HSL1 and the rest", b""));
+    assert!(rt; !is_foreign(b"x", b"\xa5HSL1 and the rest"));
 }

@@ -2,7 +2,7 @@
 ghost use Rattle.std.specs.Prelude.{◌≡◌, OnOk, bytes_eq, map, string_bytes};
 ghost use Rattle.std.specs.Io.KnownBytes.{Appends};
 ghost use Rattle.std.specs.List.{list_any};
-ghost use Rattle.hydra.specs.Usage.{later_command, later_in, later_option, later_part, later_text, usage_text};
+ghost use Rattle.hydra.specs.Usage.{later_in, later_option, later_part, later_text, usage_text};
 
 use hs_top::shape_of;
 use std::io;
@@ -11,7 +11,6 @@ use std::io::Write;
 /// A part of the command language that a later step serves.
 #[derive(Clone, Copy)]
 pub enum Later {
-    Copy,
     Visits,
     Cache,
 }
@@ -28,13 +27,17 @@ pub fn tell_usage<E: Write>(errors: &mut E, words: &[String]) -> io::Result<()>
     }
 }
 
+/// Whether a later step serves a part of these words.
+pub fn is_later(words: &[String]) -> bool {
+    later_of(words).is_some()
+}
+
 // The line of words that are outside the language.
 fn later_line(later: Option<Later>) -> &'static str
     ensures { result.now ≡ later_text later }
 {
     match later {
         None => "hydra: see hydra --help\n",
-        Some(Later::Copy) => "hydra: copy is not served yet: see hydra --help\n",
         Some(Later::Visits) => "hydra: --visits is not served yet: see hydra --help\n",
         Some(Later::Cache) => "hydra: --cache is not served yet: see hydra --help\n",
     }
@@ -55,20 +58,8 @@ fn later_of(words: &[String]) -> Option<Later>
 fn later_part(command: &[u8], options: &[String]) -> Option<Later>
     ensures { result ≡ later_part command.now (map (λ word. string_bytes word) options.now) }
 {
-    if command != b"script".as_slice() {
-        later_command(command)
-    } else {
+    if command == b"script".as_slice() {
         later_option(options)
-    }
-}
-
-// The command that a later step serves.
-#[tactic(auto, unfolding(crate::specs::Usage::later_command))]
-fn later_command(command: &[u8]) -> Option<Later>
-    ensures { result ≡ later_command command.now }
-{
-    if command == b"copy".as_slice() {
-        Some(Later::Copy)
     } else {
         None
     }

@@ -1,0 +1,165 @@
+#!/usr/bin/env python3
+"""Makes the manual page and the completions of hydra from the one source of its words, the text of `--help` in
+crates/hydra/src/help.rt: share/man/hydra.1, share/bash/hydra, share/zsh/_hydra. `--check` writes none of them, and ends
+with status 1 where one is not what would be made. `man share/man/hydra.1` shows the page; a shell finds a completion
+where it is copied to its folder of completions, or is read by `.`."""
+import os
+import re
+import sys
+
+HERE = os.path.dirname(os.path.abspath(__file__))
+SOURCE = f"{HERE}/../crates/hydra/src/help.rt"
+
+# Where a part of the page begins: with the paragraph that has these first words.
+PARTS = [
+    ("DESCRIPTION", "A store keeps blocks"),
+    ("COMMANDS", "Seven commands are served"),
+    ("STORES", "A script is read from"),
+    ("FILES", "A store takes standard input"),
+    ("LOADS", "A load tries an empty store"),
+    ("LOOKING A STORE OVER", "An audit reads the files"),
+    ("COPIES", "A copy puts the root"),
+    ("OPTIONS", "An option of a script"),
+    ("SCRIPT", "The lines of a script"),
+    ("EXIT STATUS", "Exit statuses."),
+    ("LAUNCHER", "The launcher bin/hydra"),
+    ("DAMAGED DISKS", "A damaged disk:"),
+]
+# The words that stand alone.
+ALONE = ["--help", "--version"]
+
+
+def give_up(why):
+    print(f"make.py: {why}", file=sys.stderr)
+    sys.exit(1)
+
+
+def constant(name):
+    """The text of a constant of help.rt, which has no escapes but its line ends."""
+    with open(SOURCE, encoding="ascii") as file:
+        found = re.search(rf'^pub const {name}: &str = "(.*?)";$', file.read(), re.M | re.S)
+    text = (found or give_up(f"help.rt has no {name}")).group(1)
+    text = text.removeprefix("\\\n").replace("\\n", "\n")
+    return text if "\\" not in text else give_up(f"{name} has an escape")
+
+
+def commands(text):
+    """Each command, with its options in the order of the text."""
+    found = {}
+    for name, words in re.findall(r"^  hydra (\w+) DIR G R(.*)$", text, re.M):
+        found.setdefault(name, re.findall(r"--\w+", words))
+    if "script" not in found:
+        give_up("no command `script` is in the text")
+    found["script"] = re.findall(r"^  (--\w+) N  ", text, re.M)
+    return found
+
+
+def launcher(text):
+    """The words that bin/hydra takes beside the commands."""
+    part = text[text.index(dict(PARTS)["LAUNCHER"]):]
+    return re.findall(r"^  (--\w+) [A-Z]+  ", part[:part.index("\n\n", part.index("  --"))], re.M)
+
+
+def numbers(text, before, what):
+    """The numbers behind these words: `1, 2, 4 or 8`, or `1 to 4`."""
+    found = re.search(rf"{before}:\s+(\d to \d|\d[0-9 ,or]*\d)", " ".join(text.split()))
+    said = (found or give_up(f"the text does not tell {what}")).group(1)
+    if " to " in said:
+        least, most = map(int, said.split(" to "))
+        return [str(n) for n in range(least, most + 1)]
+    return re.findall(r"\d+", said)
+
+
+def escaped(line):
+    line = line.replace("\\", "\\e").replace("-", "\\-")
+    return "\\&" + line if line.startswith((".", "'")) else line
+
+
+def page(text, version):
+    usage, rest = text.split("\n\n", 1)
+    lines = [f'.TH HYDRA 1 "" "{version}"', ".SH NAME", "hydra \\- a content\\-addressed block store", ".SH SYNOPSIS", ".nf"]
+    lines += [escaped(line.removeprefix("usage:").strip()) for line in usage.split("\n")]
+    lines.append(".fi")
+    left = list(PARTS)
+    for block in rest.rstrip("\n").split("\n\n"):
+        if left and block.startswith(left[0][1]):
+            lines.append(f".SH {left.pop(0)[0]}")
+        is_shown = block.startswith(" ")
+        lines += [".PP", *[".nf"] * is_shown, *map(escaped, block.split("\n")), *[".fi"] * is_shown]
+    if left:
+        give_up(f"no paragraph begins with `{left[0][1]}`, where {left[0][0]} begins")
+    return "\n".join(lines) + "\n"
+
+
+def bash(text):
+    known = commands(text)
+    options = "\n".join(f"        {name}) options='{' '.join(words)}' ;;" for name, words in known.items() if words)
+    return f"""# Made by share/make.py from the words of hydra.
+_hydra() {{
+    local word=${{COMP_WORDS[COMP_CWORD]}} at=$COMP_CWORD command=${{COMP_WORDS[1]}} options=
+    if [ "$command" = --try ]; then
+        at=$((at - 1))
+        command=${{COMP_WORDS[2]}}
+    fi
+    case $command in
+{options}
+    esac
+    case $at in
+        1) COMPREPLY=($(compgen -W "{' '.join([*known, *launcher(text), *ALONE])}" -- "$word")) ;;
+        2) COMPREPLY=($(compgen -f -- "$word")) ;;
+        3) COMPREPLY=($(compgen -W "{' '.join(numbers(text, 'blocks are parted', 'G'))}" -- "$word")) ;;
+        4) COMPREPLY=($(compgen -W "{' '.join(numbers(text, 'copies of each', 'R'))}" -- "$word")) ;;
+        *) [ $((at % 2)) -eq 0 ] || COMPREPLY=($(compgen -W "$options" -- "$word")) ;;
+    esac
+}}
+complete -o filenames -F _hydra hydra
+"""
+
+
+def zsh(text):
+    known = commands(text)
+    options = "\n".join(f"        {name}) options=({' '.join(words)}) ;;" for name, words in known.items() if words)
+    return f"""#compdef hydra
+# Made by share/make.py from the words of hydra.
+local -a options
+local at=$((CURRENT - 1)) command=$words[2]
+if [[ $command == --try ]]; then
+    at=$((at - 1))
+    command=$words[3]
+fi
+case $command in
+{options}
+esac
+case $at in
+    1) compadd -- {' '.join([*known, *launcher(text), *ALONE])} ;;
+    2) _files ;;
+    3) compadd -- {' '.join(numbers(text, 'blocks are parted', 'G'))} ;;
+    4) compadd -- {' '.join(numbers(text, 'copies of each', 'R'))} ;;
+    *) (( at % 2 )) && compadd -- $options ;;
+esac
+"""
+
+
+def main():
+    if sys.argv[1:] not in ([], ["--check"]):
+        give_up("usage: share/make.py [--check]")
+    text = constant("HELP")
+    made = {"man/hydra.1": page(text, constant("VERSION").strip()), "bash/hydra": bash(text), "zsh/_hydra": zsh(text)}
+    stale = []
+    for name, wanted in made.items():
+        path = f"{HERE}/{name}"
+        there = open(path, encoding="ascii").read() if os.path.exists(path) else None
+        if there == wanted:
+            continue
+        stale.append(name)
+        if not sys.argv[1:]:
+            os.makedirs(os.path.dirname(path), exist_ok=True)
+            with open(path, "w", encoding="ascii") as file:
+                file.write(wanted)
+    for name in stale:
+        print(f"share/{name} {'is not what share/make.py makes' if sys.argv[1:] else 'made'}")
+    return 1 if stale and sys.argv[1:] else 0
+
+
+if __name__ == "__main__":
+    sys.exit(main())
