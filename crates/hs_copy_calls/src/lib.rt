@@ -1,0 +1,8 @@
+//! A root is copied from one plain store into another.
+#![tactic(auto)]
+
+mod answer;
+#[cfg(test)]
+mod copies;
+mod held;
+mod plain;
