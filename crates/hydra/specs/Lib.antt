@@ -1,4 +1,3 @@
-pub mod BadLine
 pub mod CommandLine
 pub mod FileNote
 pub mod SideFault

@@ -2,7 +2,6 @@
 //! it over.
 #![tactic(auto)]
 
-mod bad_line;
 mod command_line;
 mod fault_count;
 mod file_disk;
@@ -20,7 +19,6 @@ mod straight;
 mod streams;
 mod unanswered;
 mod usage;
-mod wrong_word;
 
 use hs_top::exit_code;
 use std::process::ExitCode;

@@ -10,7 +10,6 @@ ghost use Rattle.hs_top.specs.Words.{shape_in};
 ghost use Rattle.hydra.specs.CommandLine.{IsFaulty};
 ghost use Rattle.hydra.specs.Taken.{taken_text};
 
-use crate::bad_line::{BadCause, first_cause, tell_cause};
 use crate::command_line::{Request, request_of, words_of};
 use crate::file_disk::FileDisk;
 use crate::found_files::{tell_folder, tell_foreign, tell_made, tell_same};
@@ -24,9 +23,9 @@ use crate::stores::{
 use crate::streams::{ReaderSource, WriterSink};
 use crate::unanswered::tell_unanswered;
 use crate::usage::{is_later, tell_usage};
-use crate::wrong_word::{tell_word, wrong_word};
 use hs_block::{Addresser, ShaNames};
 use hs_limits::Shape;
+use hs_mistakes::{BadCause, first_cause, tell_cause, tell_word, wrong_word};
 use hs_ports::{Disk, Sink, Source, Watch};
 use hs_promise::{Outcome, Status};
 use hs_top::{fault_line, hydra, hydra_alone, is_load, second_shape, shape_of};

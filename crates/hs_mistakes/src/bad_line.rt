@@ -1,7 +1,7 @@
 //! What is wrong with a line that is not in the script language.
 ghost use Rattle.std.specs.Prelude.{◌≡◌, OnOk};
 ghost use Rattle.std.specs.Io.KnownBytes.{Appends};
-ghost use Rattle.hydra.specs.BadLine.{cause_text};
+ghost use Rattle.hs_mistakes.specs.BadLine.{cause_text};
 
 use hs_limits::{is_key, is_name};
 use hs_script::{LONGEST_LINE, number_up_to};

@@ -1,7 +1,7 @@
 -- What the program says of a line that is not in the script language.
 use Rattle.std.specs.Prelude.{ℕ, List, [], Option, Some, None, codes}
-use Rattle.hydra.specs.declared.bad_line.BadCause.{BadCause}
-use Rattle.hydra.specs.declared.bad_line.BadCause.TheVariants as bad
+use Rattle.hs_mistakes.specs.declared.bad_line.BadCause.{BadCause}
+use Rattle.hs_mistakes.specs.declared.bad_line.BadCause.TheVariants as bad
 
 -- the line on standard error, where a cause is known
 abbrev pub cause_text : Option BadCause → List ℕ
