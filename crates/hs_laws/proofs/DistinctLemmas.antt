@@ -63,7 +63,7 @@ with_block-distinct s a block d = go (block_at s a) refl
     go (Some stored) e = d
 
 -- sessions have no part in it
-put-blocks : (s : Store) (name : List ℕ) (session : Option Session) → (put_session s name session).blocks ≡ s.blocks
+pub put-blocks : (s : Store) (name : List ℕ) (session : Option Session) → (put_session s name session).blocks ≡ s.blocks
 put-blocks s name None = refl
 put-blocks s name (Some session) = refl
 

@@ -140,16 +140,24 @@ forgets s v name handle = go (session_at s name) refl
     go None e = v
     go (Some session) e = put_valid s v name session (forgetting handle session) e (λ h n. inl (member_of_remove (is_at (nat_cmp handle)) session.handles h n))
 
-writes : (limits : Limits) (s : Store) → Valid s → (name payload handles : List ℕ) (address : Option Address) → first (refusals limits s (op.Write name payload handles address)) ≡ None → Valid (granted s (op.Write name payload handles address)).store
-unfolding granted refusals no_handle_in stale_in
-writes limits s v name payload handles address e =
+-- a write that is not refused has pointers that are anchored, and the block that is there, if one is
+pub may_write : (limits : Limits) (s : Store) → Valid s → (name payload handles : List ℕ) (address : Option Address) → first (refusals limits s (op.Write name payload handles address)) ≡ None → MayWrite s (given_address address) (written s name payload handles)
+unfolding refusals no_handle_in stale_in
+may_write limits s v name payload handles address e =
     let a = given_address address in
     let block = written s name payload handles in
     let r = all_none (refusals limits s (op.Write name payload handles address)) e in
-    let may : MayWrite s a block = record {
+    record {
       pointers = λ p n. let h = member_of_map (λ handle. address_of s name handle) p handles n in subst (λ z. Reaches s.blocks (anchors s (least_epoch s)) z) (sym h.2) (anchored_handle s v name h.0 (epoch_at s a) (least-epoch_at s a v.epochs.some_shard) (usable s name h.0 (epoch_at s a) (first-each (λ handle. no_such_handle (session_at s name) handle) handles h.0 r.1.1.1.0 h.1) (first-each (λ handle. stale_handle (epoch_at s a) handle (held_in (session_at s name) handle)) handles h.0 r.1.1.1.1.1.0 h.1)));
       same = λ stored h. same_block s a block stored r.1.1.1.1.1.1.0 h;
-    } in
+    }
+
+writes : (limits : Limits) (s : Store) → Valid s → (name payload handles : List ℕ) (address : Option Address) → first (refusals limits s (op.Write name payload handles address)) ≡ None → Valid (granted s (op.Write name payload handles address)).store
+unfolding granted
+writes limits s v name payload handles address e =
+    let a = given_address address in
+    let block = written s name payload handles in
+    let may = may_write limits s v name payload handles address e in
     let held : Held = record { address = a; epoch = epoch_at s a } in
     hold_all_valid (with_block s a block) (with_block_valid s v a block may) name (held ∷ []) (λ x n l. elim n [ inl q ↦ subst (λ z. Reaches (with_block s a block).blocks (rests_on (with_block s a block) z.epoch) z.address) (sym q) (written_rests s v a block may) | inr k ↦ absurd k ])
 

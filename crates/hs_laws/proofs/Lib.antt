@@ -14,4 +14,5 @@ pub mod DistinctLemmas
 pub mod OrderLemmas
 pub mod OrderKeeps
 pub mod RunLemmas
+pub mod AcyclicKeeps
 pub mod WriteAnswers

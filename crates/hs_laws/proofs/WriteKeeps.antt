@@ -28,14 +28,14 @@ module _ (s : Store) (v : Valid s) (a : Address) (block : Block) (m : MayWrite s
 
   -- ---- the blocks
 
-  other : (b : Address) → is_same b a ≡ false → block_at after b ≡ block_at s b
+  pub other : (b : Address) → is_same b a ≡ false → block_at after b ≡ block_at s b
   other b f = go (block_at s a) refl
     where
       go : (found : Option StoredBlock) → block_at s a ≡ found → lookup (is_at (address_cmp b)) (blocks_with found s.blocks a block now) ≡ block_at s b
       go None e = lookup-insert_other s.blocks a (record { pointers = block.pointers; bytes = block.bytes; born = now }) b f
       go (Some stored) e = refl
 
-  its_pointers : pointers_of (block_at after a) ≡ block.pointers
+  pub its_pointers : pointers_of (block_at after a) ≡ block.pointers
   its_pointers = go (block_at s a) refl
     where
       go : (found : Option StoredBlock) → block_at s a ≡ found → pointers_of (lookup (is_at (address_cmp a)) (blocks_with found s.blocks a block now)) ≡ block.pointers
@@ -78,7 +78,7 @@ module _ (s : Store) (v : Valid s) (a : Address) (block : Block) (m : MayWrite s
 
   -- ---- pointers
 
-  points_before : (b c : Address) → Points after.blocks b c → Points s.blocks b c ⊎ Member c block.pointers
+  pub points_before : (b c : Address) → Points after.blocks b c → Points s.blocks b c ⊎ Member c block.pointers
   points_before b c p = go (is_same b a) refl
     where
       go : (d : Bool) → is_same b a ≡ d → Points s.blocks b c ⊎ Member c block.pointers

@@ -1,6 +1,7 @@
 //! What follows from the definitions of the plain store: laws, each a function without parameters whose clause is the law.
 #![tactic(auto)]
 
+mod acyclic;
 mod distinct;
 mod order;
 mod present;
@@ -11,6 +12,7 @@ mod sweep;
 mod valid;
 mod write;
 
+pub use acyclic::stores_stay_acyclic;
 pub use distinct::addresses_stay_distinct;
 pub use order::lists_stay_in_order;
 pub use present::what_is_kept_is_present;
