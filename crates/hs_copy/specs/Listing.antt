@@ -1,6 +1,6 @@
 -- What is asked of the store that a root is copied from, and what is found there.
 use Rattle.std.specs.List.{AllByRecursion}
-use Rattle.std.specs.Prelude.{ℕ, ◌≡◌, List, [], ◌∷◌, ◌++◌, None, Some, Contains, length, map}
+use Rattle.std.specs.Prelude.{ℕ, ◌<◌, ◌≡◌, List, [], ◌∷◌, ◌++◌, None, Some, Contains, length, map}
 use Rattle.hs_asking.specs.Shown.{IfTold, Shown, store_now}
 use Rattle.hs_asking.specs.Staying.{Stays}
 use Rattle.hs_laws.specs.Written.{IsBlockAt}
@@ -29,6 +29,13 @@ pub record AreReached (s : Store) (a : Address) (list : List Address) : Type 0 w
   pub once : AreDifferent list
   pub reached : (b : Address) → Contains list b → IsReached s (a ∷ []) b
   pub all : (b : Address) → IsReached s (a ∷ []) b → Contains list b
+
+-- more than so many different addresses are reached
+pub record ReachesMore (s : Store) (a : Address) (n : ℕ) : Type 0 where
+  pub list : List Address
+  pub once : AreDifferent list
+  pub reached : (b : Address) → Contains list b → IsReached s (a ∷ []) b
+  pub more : n < length list
 
 -- each root that a key retains it retains later, and all that its address leads to stays with the same blocks
 pub record KeepsItsOwn (s t : Store) : Type 0 where
