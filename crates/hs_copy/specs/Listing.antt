@@ -10,6 +10,8 @@ use Rattle.hs_model.specs.Reach.{IsReached}
 use Rattle.hs_model.specs.Store.{Root, Store, retained_at}
 use Rattle.hs_model.specs.declared.op.Op.{Op}
 use Rattle.hs_model.specs.declared.op.Op.TheVariants as op
+use Rattle.hs_model.specs.declared.reply.Reply.{Reply}
+use Rattle.hs_model.specs.declared.reply.Reply.TheVariants as reply
 use Rattle.hs_tree.specs.Fetching.{IsReading}
 use Rattle.hs_tree.specs.Storing.{our_session}
 
@@ -36,6 +38,14 @@ pub record ReachesMore (s : Store) (a : Address) (n : ℕ) : Type 0 where
   pub once : AreDifferent list
   pub reached : (b : Address) → Contains list b → IsReached s (a ∷ []) b
   pub more : n < length list
+
+-- a key keeps an address that does
+abbrev pub KeepsMore : Store → List ℕ → ℕ → Type 0
+KeepsMore s key n = (root : Root) × (retained_at s key ≡ Some root) × ReachesMore s root.address n
+
+-- a key keeps nothing, and that was told
+abbrev pub IsUnkept : Store → List ℕ → Reply → Type 0
+IsUnkept s key told = (told ≡ reply.NoKey key) × (retained_at s key ≡ None)
 
 -- each root that a key retains it retains later, and all that its address leads to stays with the same blocks
 pub record KeepsItsOwn (s t : Store) : Type 0 where
