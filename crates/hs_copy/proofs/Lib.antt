@@ -22,3 +22,4 @@ pub mod ThereLemmas
 pub mod CopyLemmas
 pub mod Examples
 pub mod CopiedLemmas
+pub mod CountLemmas
