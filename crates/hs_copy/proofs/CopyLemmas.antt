@@ -17,7 +17,7 @@ use Rattle.hs_copy.specs.Finding.{EndsSo, IsRootCause, IsToldLast, ListingStops}
 use Rattle.hs_copy.specs.Heard.{AreHeard, joined, ops_of}
 use Rattle.hs_copy.specs.Listing.{AreAllOf, AreDifferent, HasListed, name_of, reads_in}
 use Rattle.hs_copy.specs.Placing.{AreBelow}
-use Rattle.hs_copy.specs.Rounds.{ForgetStops, IsEnd, IsForgetEnd, IsNext, RootDone, RootStops, RoundStale, RoundsBroken, address_at, block_in, blocks_of, writes_of}
+use Rattle.hs_copy.specs.Rounds.{ForgetStops, IsEnd, IsForgetEnd, IsNext, IsWriteCause, RootDone, RootStops, RoundStale, RoundsBroken, address_at, block_in, blocks_of, writes_of}
 use Rattle.hs_copy.specs.Rounds.RootStops.{opened, unopened}
 use Rattle.hs_copy.specs.Rounds.RoundsStop.{in_forgets, in_round}
 use Rattle.hs_copy.specs.Writing.{AreChildrenFirst, ComesNext, HasWritten, IsForget, IsForgetDone, IsWorkDone, deletes_in}
@@ -395,8 +395,8 @@ module _ (name : List ℕ → Address) (key : List ℕ) (placed : List Placed) w
 
   second_stops : {Q : Type 0} (u v : Shown Q) (f : PartFault) → u.ended ≡ None → RootStops name key u v placed f → SecondStops name key u v placed f
   second_stops u v f going (unopened c) = open_stops u v f going c
-  second_stops u v f going (opened first h (in_round n few mid c b nodes broken r)) = round_ends u first mid r.mid n c few h broken r.work r.done r.heard r.back r.writes v f r.calm r.deletes r.end
-  second_stops u v f going (opened first h (in_forgets n few mid stale c b nodes broken s most g)) = forgets_end u first mid stale v n c b nodes f few h broken s most g
+  second_stops u v f going (opened first h (in_round n few mid c b nodes broken r caught)) = round_ends u first mid r.mid n c few h broken r.work r.done r.heard r.back r.writes v f r.calm r.deletes r.end
+  second_stops u v f going (opened first h (in_forgets n few mid stale c b nodes broken s most g granted)) = forgets_end u first mid stale v n c b nodes f few h broken s most g
 
 -- ---- the whole
 
@@ -430,10 +430,10 @@ first_stopped name key s t u f g going is h cause = record {
 all_named : {P : Type 0} (name : List ℕ → Address) (key : List ℕ) (s : Shown P) (placed : List Placed) → IfTold s (λ b. IsIdle name b s) → IfTold s (λ b. AreAllOf b.name (store_now b s) key (blocks_of b.name [] placed)) → IfTold s (λ b. AreAllOf name (store_now b s) key (blocks_of name [] placed))
 all_named name key s placed idle all is = subst (λ (n : List ℕ → Address). AreAllOf n (store_now s.began s) key (blocks_of n [] placed)) (idle is).named (all is)
 
-pub second_stopped : {P Q : Type 0} (name : List ℕ → Address) (key : List ℕ) (s t : Shown P) (u v : Shown Q) (placed : List Placed) (f : PartFault) (g : CopyFault) → u.ended ≡ None → length placed ≤ 4000 → HasListed key s t (length placed) → AreBelow 0 placed → IfTold s (λ b. IsIdle name b s) → IfTold s (λ b. AreAllOf b.name (store_now b s) key (blocks_of b.name [] placed)) → IsSecond f g → RootStops name key u v placed f → IsStopped name key s t u v g
-second_stopped name key s t u v placed f g going few listed below idle all is h =
+pub second_stopped : {P Q : Type 0} (name : List ℕ → Address) (key : List ℕ) (s t : Shown P) (u v : Shown Q) (placed : List Placed) (f : PartFault) (g : CopyFault) → u.ended ≡ None → length placed ≤ 4000 → HasListed key s t (length placed) → AreBelow 0 placed → IfTold s (λ b. IsIdle name b s) → IfTold s (λ b. AreAllOf b.name (store_now b s) key (blocks_of b.name [] placed)) → IsSecond f g → RootStops name key u v placed f → IsWriteCause key u f → IsStopped name key s t u v g
+second_stopped name key s t u v placed f g going few listed below idle all is h cause =
     let k = second_stops name key placed u v f going h in
-    let e = ends f g is k.ended k.last in
+    let e = ends f g is k.ended k.last cause in
     record {
       reads = op.Open our_session ∷ (op.Look our_session key ∷ listed.ops);
       read = listed.asked;
@@ -453,11 +453,11 @@ second_stopped name key s t u v placed f g going few listed below idle all is h 
       last = e.2;
     }
   where
-    ends : (f : PartFault) (g : CopyFault) → IsSecond f g → EndsSo v.ended f → IsToldLast u v f → FirstEnds t.ended g × SecondEnds v.ended g × IsOfLast key s t u v g
-    ends (part.Core core) g is e l = subst (λ z. FirstEnds t.ended z × SecondEnds v.ended z × IsOfLast key s t u v z) (sym is) (listed.going, e, l)
-    ends (part.Refused told) g is e l = subst (λ z. FirstEnds t.ended z × SecondEnds v.ended z × IsOfLast key s t u v z) (sym is) (listed.going, e, inr l)
-    ends part.TooMany g is e l = subst (λ z. FirstEnds t.ended z × SecondEnds v.ended z × IsOfLast key s t u v z) (sym is) (listed.going, e, tt)
-    ends part.NoMemory g is e l = subst (λ z. FirstEnds t.ended z × SecondEnds v.ended z × IsOfLast key s t u v z) (sym is) (listed.going, e, tt)
+    ends : (f : PartFault) (g : CopyFault) → IsSecond f g → EndsSo v.ended f → IsToldLast u v f → IsWriteCause key u f → FirstEnds t.ended g × SecondEnds v.ended g × IsOfLast key s t u v g
+    ends (part.Core core) g is e l w = subst (λ z. FirstEnds t.ended z × SecondEnds v.ended z × IsOfLast key s t u v z) (sym is) (listed.going, e, l)
+    ends (part.Refused told) g is e l w = subst (λ z. FirstEnds t.ended z × SecondEnds v.ended z × IsOfLast key s t u v z) (sym is) (listed.going, e, inr ((l.0, l.1, l.2), w))
+    ends part.TooMany g is e l w = subst (λ z. FirstEnds t.ended z × SecondEnds v.ended z × IsOfLast key s t u v z) (sym is) (listed.going, e, tt)
+    ends part.NoMemory g is e l w = subst (λ z. FirstEnds t.ended z × SecondEnds v.ended z × IsOfLast key s t u v z) (sym is) (listed.going, e, tt)
 
 -- nothing was begun
 pub unbegun : {P Q : Type 0} (name : List ℕ → Address) (key : List ℕ) (s : Shown P) (u : Shown Q) → s.ended ≡ None → u.ended ≡ None → IsStopped name key s s u u fault.NoMemory
@@ -504,8 +504,8 @@ pub copied_as : {P Q : Type 0} (name : List ℕ → Address) (key : List ℕ) (s
 copied_as name key s t u v placed seen other n few listed below idle all same h again count =
     subst (λ z. HasCopied name key s t u v z) (sym (count ∙ ap (λ z. length z) again)) (is_copied name key s t u v placed few listed below idle all (subst (λ z. RootDone name key u v z) same h))
 
-pub stopped_as : {P Q : Type 0} (name : List ℕ → Address) (key : List ℕ) (s t : Shown P) (u v : Shown Q) (placed seen : List Placed) (f : PartFault) (g : CopyFault) → u.ended ≡ None → length placed ≤ 4000 → HasListed key s t (length placed) → AreBelow 0 placed → IfTold s (λ b. IsIdle name b s) → IfTold s (λ b. AreAllOf b.name (store_now b s) key (blocks_of b.name [] placed)) → IsSecond f g → seen ≡ placed → RootStops name key u v seen f → IsStopped name key s t u v g
-stopped_as name key s t u v placed seen f g going few listed below idle all is same h = second_stopped name key s t u v placed f g going few listed below idle all is (subst (λ z. RootStops name key u v z f) same h)
+pub stopped_as : {P Q : Type 0} (name : List ℕ → Address) (key : List ℕ) (s t : Shown P) (u v : Shown Q) (placed seen : List Placed) (f : PartFault) (g : CopyFault) → u.ended ≡ None → length placed ≤ 4000 → HasListed key s t (length placed) → AreBelow 0 placed → IfTold s (λ b. IsIdle name b s) → IfTold s (λ b. AreAllOf b.name (store_now b s) key (blocks_of b.name [] placed)) → IsSecond f g → seen ≡ placed → RootStops name key u v seen f → IsWriteCause key u f → IsStopped name key s t u v g
+stopped_as name key s t u v placed seen f g going few listed below idle all is same h cause = second_stopped name key s t u v placed f g going few listed below idle all is (subst (λ z. RootStops name key u v z f) same h) cause
 
 -- a store that is idle is so of whatever naming
 pub alone_from : {P : Type 0} (name : List ℕ → Address) (s : Shown P) → IfTold s (λ b. IsIdle name b s) → IfTold s (λ b. IsAlone b s)

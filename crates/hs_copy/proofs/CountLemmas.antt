@@ -1,5 +1,5 @@
 -- What a key reaches, each address once, is as many as there are.
-use Rattle.std.proofs.Common.{◌≡◌, ◌∙◌, inl, inr, ℕ, ◌+◌, ◌<◌, ◌≤◌, List, [], ◌∷◌, ◌++◌, Some, refl, sym, ap, subst, arith, length, map, Contains}
+use Rattle.std.proofs.Common.{◌≡◌, ◌∙◌, inl, inr, ℕ, ◌+◌, ◌<◌, ◌≤◌, suc, List, [], ◌∷◌, ◌++◌, Some, refl, sym, ap, subst, arith, length, map, Contains}
 use Rattle.std.proofs.lemmas.List.{length-append, length-map}
 use Rattle.hs_copy.specs.Listing.{AreAllOf, AreDifferent, KeepsMore, name_of}
 use Rattle.hs_limits.specs.Block.{Block}
@@ -20,7 +20,7 @@ few_among (x ∷ xs) ys d among =
     let r = around x ys (among x (inl refl)) in
     let rest : length xs ≤ length (r.0 ++ r.1) = few_among xs (r.0 ++ r.1) d.1 (λ a m. without r.0 r.1 a m (subst (λ z. Member a z) r.2 (among a (inr m)))) in
     let here : length (r.0 ++ r.1) ≡ length r.0 + length r.1 = length-append r.0 r.1 in
-    let there : length ys ≡ length r.0 + (length r.1 + 1) = ap (λ z. length z) r.2 ∙ length-append r.0 (x ∷ r.1) in
+    let there : length ys ≡ length r.0 + suc (length r.1) = ap (λ z. length z) r.2 ∙ length-append r.0 (x ∷ r.1) in
     omega (arith, rest, here, there)
   where
     without : (front back : List Address) (a : Address) → Member a xs → Member a (front ++ x ∷ back) → Member a (front ++ back)

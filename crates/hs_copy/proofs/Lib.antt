@@ -23,3 +23,5 @@ pub mod CopyLemmas
 pub mod Examples
 pub mod CopiedLemmas
 pub mod CountLemmas
+pub mod EpochLemmas
+pub mod CauseLemmas

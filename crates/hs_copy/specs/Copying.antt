@@ -6,7 +6,7 @@ use Rattle.hs_asking.specs.Telling.{grants}
 use Rattle.hs_copy.specs.Heard.{joined, ops_of}
 use Rattle.hs_copy.specs.Copied.{IsCopied}
 use Rattle.hs_copy.specs.Listing.{AreAllOf, AreDifferent, HasListed, IsUnkept, KeepsMore, name_of, reads_in}
-use Rattle.hs_copy.specs.Writing.{AreChildrenFirst, ComesNext, HasWritten, IsBroken, IsForget, IsWorkDone, deletes_in}
+use Rattle.hs_copy.specs.Writing.{AreChildrenFirst, ComesNext, HasWritten, IsBroken, IsCopyRefusal, IsForget, IsWorkDone, deletes_in}
 use Rattle.hs_copy.specs.declared.fault.CopyFault.{CopyFault}
 use Rattle.hs_copy.specs.declared.fault.CopyFault.TheVariants as fault
 use Rattle.hs_desk.specs.declared.fault.CoreFault.{CoreFault}
@@ -93,11 +93,11 @@ abbrev pub IsRefusal : {tells : Type 0} → Shown tells → Shown tells → Repl
 IsRefusal start now told = (l : HasAskedLast start) × Hears l.before now l.last told × (grants l.last told ≡ false)
 
 -- a fault is what the last operation came to, of the store of which it was asked; nothing is asked of the second before the first has been listed;
--- where the first is told, its refusal is that the key keeps nothing, and there are too many blocks only where it keeps what reaches more than 4,000
+-- where the first is told, its refusal is that the key keeps nothing, and there are too many blocks only where it keeps what reaches more than 4,000; where the second is told, its refusal is of a block or of the root
 abbrev pub IsOfLast : {P Q : Type 0} → List ℕ → Shown P → Shown P → Shown Q → Shown Q → CopyFault → Type 0
 IsOfLast key s t u v (fault.First core) = (l : HasAskedLast s) × Ends l.before t l.last core × (v ≡ u)
 IsOfLast key s t u v (fault.Second core) = (l : HasAskedLast u) × Ends l.before v l.last core
-IsOfLast key s t u v (fault.Refused told) = (IsRefusal s t told × (v ≡ u) × IfTold s (λ b. IsUnkept (store_now b s) key told)) ⊎ IsRefusal u v told
+IsOfLast key s t u v (fault.Refused told) = (IsRefusal s t told × (v ≡ u) × IfTold s (λ b. IsUnkept (store_now b s) key told)) ⊎ IsRefusal u v told × IfTold u (λ c. IsCopyRefusal key told)
 IsOfLast key s t u v (fault.CopyFull blocks) = (blocks ≡ 4000) × (v ≡ u) × IfTold s (λ b. KeepsMore (store_now b s) key 4000)
 IsOfLast key s t u v fault.NoMemory = Unit {0}
 
