@@ -1,5 +1,5 @@
 -- Each block stands at its name, whatever a journal tells.
-use Rattle.std.proofs.Common.{◌≡◌, ◌∙◌, inl, inr, ℕ, ◌≤◌, ◌&&◌, Bool, true, false, List, [], ◌∷◌, Option, Some, None, refl, sym, ap, subst, arith, tests, length, map, is_none, is_some, nat_le, slice_index}
+use Rattle.std.proofs.Common.{◌≡◌, ◌∙◌, inl, inr, ℕ, ◌≤◌, ◌&&◌, Bool, true, List, [], ◌∷◌, Option, Some, None, refl, sym, ap, subst, arith, tests, length, map, is_none, is_some, nat_le, slice_index}
 use Rattle.std.specs.BTreeMap.{is_at}
 use Rattle.std.specs.List.{list_all}
 use Rattle.std.specs.Map.{lookup}
@@ -24,8 +24,8 @@ use Rattle.hs_limits.specs.declared.spelling.TheConstants.{MOST_BYTES, MOST_POIN
 use Rattle.hs_model.proofs.JudgeLemmas.{judge_granted, judge_refused}
 use Rattle.hs_model.specs.Judge.{given_address, granted, judge, refusals, written}
 use Rattle.hs_model.specs.Refusals.{first, no_handle_in, no_such_handle, refused_when}
-use Rattle.hs_model.specs.Run.{Event, asks, run, step}
-use Rattle.hs_model.specs.Store.{Session, Store, address_cmp, block_at, epoch_at, held_in, session_at, with_block}
+use Rattle.hs_model.specs.Run.{Event, run}
+use Rattle.hs_model.specs.Store.{Session, Store, address_cmp, epoch_at, held_in, session_at, with_block}
 use Rattle.hs_model.specs.declared.command.Command.{Command}
 use Rattle.hs_model.specs.declared.deed.Deed.{Deed}
 use Rattle.hs_model.specs.declared.deed.Deed.TheVariants as deed

@@ -1,12 +1,11 @@
 -- A listing from its beginning to its end: all that a key reaches.
-use Rattle.std.proofs.Common.{◌≡◌, ◌∙◌, inl, inr, ℕ, ◌+◌, ◌<◌, ◌≤◌, List, [], ◌∷◌, ◌++◌, Result, Ok, Err, Some, IfOk, refl, sym, ap, subst, arith, append-nil, length, map, slice_get}
+use Rattle.std.proofs.Common.{◌≡◌, ◌∙◌, inl, inr, ℕ, ◌+◌, ◌≤◌, List, [], ◌∷◌, ◌++◌, Result, Ok, Err, Some, IfOk, refl, sym, ap, subst, arith, append-nil, length, slice_get}
 use Rattle.std.proofs.lemmas.List.{length-append, length-map}
 use Rattle.hs_asking.proofs.NamedLemmas.{answers_named}
 use Rattle.hs_asking.specs.Lawful.{AreAnswersOf}
 use Rattle.hs_asking.specs.Shown.{Began, IfTold, Shown, store_now}
 use Rattle.hs_asking.specs.Staying.{Stays}
 use Rattle.hs_copy.proofs.BackLemmas.{reached_top, whole_back}
-use Rattle.hs_copy.proofs.BlockLemmas.{some_is}
 use Rattle.hs_copy.proofs.WholeLemmas.{all_of_key}
 use Rattle.hs_copy.specs.Listing.{AreAllOf, HasListed}
 use Rattle.hs_copy.specs.Placing.{IsOrdered}
@@ -18,7 +17,7 @@ use Rattle.hs_copy.specs.declared.list.Listed.{Listed}
 use Rattle.hs_copy.specs.declared.order.Placed.{Placed}
 use Rattle.hs_limits.specs.Limits.{greatest_limits}
 use Rattle.hs_limits.specs.declared.address.Address.{Address}
-use Rattle.hs_model.proofs.Members.{Member, member-append_left, member_from_contains, member_of_map}
+use Rattle.hs_model.proofs.Members.{member-append_left, member_from_contains, member_of_map}
 use Rattle.hs_model.specs.Reach.{IsReached}
 use Rattle.hs_model.specs.Store.{Root, Store}
 use Rattle.hs_model.specs.declared.op.Op.TheVariants as op

@@ -1,5 +1,5 @@
 -- What an address leads to later it led to before, where all of it stays.
-use Rattle.std.proofs.Common.{◌≡◌, ◌∙◌, inl, List, [], ◌∷◌, ℕ, refl, sym, subst, slice_get, Contains}
+use Rattle.std.proofs.Common.{◌≡◌, ◌∙◌, inl, List, [], ◌∷◌, ℕ, refl, sym, subst, Contains}
 use Rattle.hs_asking.specs.Staying.{Stays}
 use Rattle.hs_copy.proofs.CopiedLemmas.{reached_more}
 use Rattle.hs_copy.proofs.ListingLemmas.{from_top}
@@ -13,7 +13,7 @@ use Rattle.hs_copy.specs.declared.list.Listed.{Listed}
 use Rattle.hs_limits.specs.declared.address.Address.{Address}
 use Rattle.hs_model.proofs.Members.{Member, contains_from_member}
 use Rattle.hs_model.specs.Reach.{IsReached, Leads, pointers_of}
-use Rattle.hs_model.specs.Store.{Root, Store, block_at, retained_at}
+use Rattle.hs_model.specs.Store.{Store, block_at}
 
 pub reached_top : (s : Store) (top : Address) → IsReached s (top ∷ []) top
 reached_top s top = record { start = top; path = []; anchored = contains_from_member top (top ∷ []) (inl refl); leads = refl }

@@ -1,7 +1,6 @@
 -- Why a writing is refused, where its store is told.
-use Rattle.std.proofs.Common.{◌≡◌, ◌∙◌, ◌⊎◌, inl, inr, ℕ, ◌+◌, ◌<◌, ◌≤◌, false, List, [], ◌∷◌, ◌++◌, Result, Ok, Err, IfErr, refl, ap, subst, arith, length}
+use Rattle.std.proofs.Common.{◌≡◌, ◌∙◌, inl, inr, ℕ, ◌+◌, ◌≤◌, false, List, [], ◌∷◌, ◌++◌, refl, ap, subst, arith}
 use Rattle.hs_asking.proofs.SaneLemmas.{answers_sane}
-use Rattle.hs_asking.specs.Judged.{IsJudged}
 use Rattle.hs_asking.specs.Lawful.{AreAnswersOf}
 use Rattle.hs_asking.specs.Seats.{IsSane}
 use Rattle.hs_asking.specs.Shown.{Began, IfTold, Shown, store_now}
@@ -14,9 +13,9 @@ use Rattle.hs_copy.proofs.StepLemmas.{no_sessions}
 use Rattle.hs_copy.specs.Calls.{CallFails}
 use Rattle.hs_copy.specs.Hands.{IsTooOld}
 use Rattle.hs_copy.specs.Heard.{AreHeard, joined, ops_of}
-use Rattle.hs_copy.specs.Rounds.{IsNotStale, IsToldWhy, IsWriteCause, RoundStops, RoundsBroken, RoundsStop, epoch_now, writes_of}
+use Rattle.hs_copy.specs.Rounds.{IsWriteCause, RoundStops, RoundsBroken, RoundsStop, epoch_now}
 use Rattle.hs_copy.specs.Rounds.RoundsStop.{in_forgets, in_round}
-use Rattle.hs_copy.specs.Writing.{ComesNext, IsCopyRefusal, deletes_in}
+use Rattle.hs_copy.specs.Writing.{deletes_in}
 use Rattle.hs_copy.specs.declared.fault.PartFault.{PartFault}
 use Rattle.hs_copy.specs.declared.fault.PartFault.TheVariants as part
 use Rattle.hs_copy.specs.declared.order.Placed.{Placed}

@@ -1,12 +1,12 @@
 -- What a key reaches, each address once, is as many as there are.
-use Rattle.std.proofs.Common.{◌≡◌, ◌∙◌, inl, inr, ℕ, ◌+◌, ◌<◌, ◌≤◌, suc, List, [], ◌∷◌, ◌++◌, Some, refl, sym, ap, subst, arith, length, map, Contains}
+use Rattle.std.proofs.Common.{◌≡◌, ◌∙◌, inl, inr, ℕ, ◌+◌, ◌<◌, ◌≤◌, suc, List, [], ◌∷◌, ◌++◌, Some, refl, sym, ap, subst, arith, length, map}
 use Rattle.std.proofs.lemmas.List.{length-append, length-map}
 use Rattle.hs_copy.specs.Listing.{AreAllOf, AreDifferent, KeepsMore, name_of}
 use Rattle.hs_limits.specs.Block.{Block}
 use Rattle.hs_limits.specs.declared.address.Address.{Address}
 use Rattle.hs_model.proofs.Members.{Member, contains_from_member, member-append, member-append_left, member-append_right, member_from_contains}
 use Rattle.hs_model.specs.Reach.{IsReached}
-use Rattle.hs_model.specs.Store.{Root, Store, retained_at}
+use Rattle.hs_model.specs.Store.{Root, Store}
 
 around : (x : Address) (ys : List Address) → Member x ys → (front : List Address) × (back : List Address) × (ys ≡ front ++ x ∷ back)
 around x [] m = absurd m
@@ -33,7 +33,7 @@ pub counted_all : (name : List ℕ → Address) (s : Store) (key : List ℕ) (bl
 counted_all name s key blocks n all more =
     let same : more.0 ≡ all.root = some_root more.0 all.root (sym more.1 ∙ all.kept) in
     let most : length more.2.list ≤ length (map (name_of name) blocks) = few_among more.2.list (map (name_of name) blocks) more.2.once
-        (λ a m. member_from_contains a (map (name_of name) blocks) (all.addresses.all a (subst (λ (z : Root). IsReached s (z.address ∷ []) a) same (more.2.reached a (contains_from_member a more.2.list m))))) in
+    (λ a m. member_from_contains a (map (name_of name) blocks) (all.addresses.all a (subst (λ (z : Root). IsReached s (z.address ∷ []) a) same (more.2.reached a (contains_from_member a more.2.list m))))) in
     let long : length (map (name_of name) blocks) ≡ length blocks = length-map blocks (name_of name) in
     let over : n < length more.2.list = more.2.more in
     omega (arith, most, long, over)

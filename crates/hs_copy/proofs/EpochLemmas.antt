@@ -1,5 +1,5 @@
 -- The epoch of shard 0 rises by deletions alone, once for each.
-use Rattle.std.proofs.Common.{◌≡◌, ◌∙◌, ℕ, ◌+◌, ◌≤◌, List, [], ◌∷◌, ◌++◌, Option, Some, None, refl, sym, ap, subst, arith, slice_index, slice_set}
+use Rattle.std.proofs.Common.{◌≡◌, ℕ, ◌+◌, ◌≤◌, List, [], ◌∷◌, Option, Some, None, refl, sym, ap, subst, arith, slice_index, slice_set}
 use Rattle.hs_asking.proofs.SaneLemmas.{step_sane}
 use Rattle.hs_asking.proofs.SeatLemmas.{put-epochs}
 use Rattle.hs_asking.proofs.StayLemmas.{Drifted, drift}

@@ -6,7 +6,6 @@ use Rattle.std.specs.Map.{lookup}
 use Rattle.hs_asking.specs.Alone.{IsLooked, looked, nothing}
 use Rattle.hs_asking.specs.Judged.{IsJudged}
 use Rattle.hs_asking.specs.Lawful.{AreAnswersOf}
-use Rattle.hs_asking.specs.Seats.{IsSane}
 use Rattle.hs_asking.specs.Shown.{Began, IfTold, Shown, store_now}
 use Rattle.hs_asking.specs.Telling.{grants, is_bytes, is_held, is_ok}
 use Rattle.hs_copy.proofs.AllLemmas.{began_so, first_of, holds_root, looked_at, starts}

@@ -1,5 +1,5 @@
 -- A block is read, its handle forgotten, and what it points to numbered.
-use Rattle.std.proofs.Common.{◌≡◌, ◌∙◌, ◌⊎◌, inl, inr, ℕ, ◌+◌, ◌≤◌, zero, suc, List, [], ◌∷◌, ◌++◌, Some, None, refl, sym, ap, subst, arith, append-nil, append_assoc, length, map, slice_get, Contains}
+use Rattle.std.proofs.Common.{◌≡◌, ◌∙◌, ◌⊎◌, inl, inr, ℕ, ◌+◌, ◌≤◌, zero, suc, List, [], ◌∷◌, ◌++◌, Some, refl, sym, ap, subst, arith, append-nil, append_assoc, length, map, slice_get, Contains}
 use Rattle.std.proofs.lemmas.List.{length-append, map-append}
 use Rattle.std.specs.List.{AllZip, range_with_len}
 use Rattle.hs_asking.proofs.AloneLemmas.{reads_alone}
@@ -22,8 +22,7 @@ use Rattle.hs_limits.specs.Limits.{greatest_limits}
 use Rattle.hs_limits.specs.declared.address.Address.{Address}
 use Rattle.hs_limits.specs.declared.address.Held.{Held}
 use Rattle.hs_limits.specs.declared.limits.Limits.{Limits}
-use Rattle.hs_limits.specs.declared.spelling.TheConstants.{MOST_POINTERS}
-use Rattle.hs_model.proofs.Members.{Member, contains_from_member, member-append, member-append_left, member-append_right, member-map, member_from_contains}
+use Rattle.hs_model.proofs.Members.{Member, contains_from_member, member-append, member-append_left, member-append_right}
 use Rattle.hs_model.specs.Reach.{IsReached, pointers_of}
 use Rattle.hs_model.specs.Store.{Root, Store, block_at, helds_of}
 use Rattle.hs_model.specs.declared.op.Op.TheVariants as op
