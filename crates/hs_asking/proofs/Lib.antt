@@ -7,3 +7,4 @@ pub mod UseLemmas
 pub mod AloneLemmas
 pub mod SaneLemmas
 pub mod RootLemmas
+pub mod NamedLemmas

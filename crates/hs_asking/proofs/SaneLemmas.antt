@@ -24,7 +24,7 @@ use Rattle.hs_model.specs.declared.op.Op.TheVariants as op
 use Rattle.hs_model.specs.declared.reply.Reply.{Reply}
 use Rattle.hs_model.specs.declared.store.StoredBlock.{StoredBlock}
 
-not_above : (n most : ℕ) (r : Reply) → refused_when (nat_lt most n) r ≡ None → n ≤ most
+pub not_above : (n most : ℕ) (r : Reply) → refused_when (nat_lt most n) r ≡ None → n ≤ most
 not_above n most r e = go (nat_lt most n) refl e
   where
     go : (b : Bool) → nat_lt most n ≡ b → refused_when b r ≡ None → n ≤ most

@@ -85,6 +85,25 @@ more_same s u e =
     let at : (a : Address) → block_at u a ≡ block_at s a = λ a. ap (λ x. lookup (is_at (address_cmp a)) x) e in
     record { was = λ a y p. inl (sym (at a) ∙ p); same = λ a x y p q. let r = at a in cc (p, q, r) }
 
+-- what is there once a block was put was there before, or is that block
+pub was_or_put : (s u : Store) (a : Address) (block : Block) (epoch : ℕ) → u.blocks ≡ blocks_with (block_at s a) s.blocks a block epoch → (b : Address) (y : StoredBlock) → block_at u b ≡ Some y → (block_at s b ≡ Some y) ⊎ (b ≡ a) × (block_of y ≡ block)
+was_or_put s u a block epoch e b y p = go (block_at s a) e
+  where
+    stored : StoredBlock
+    stored = record { pointers = block.pointers; bytes = block.bytes; born = epoch }
+
+    put : u.blocks ≡ insert_entry address_cmp s.blocks a stored → (c : Bool) → is_same b a ≡ c → (block_at s b ≡ Some y) ⊎ (b ≡ a) × (block_of y ≡ block)
+    put f true t =
+        let there : block_at u a ≡ Some stored = ap (λ x. lookup (is_at (address_cmp a)) x) f ∙ lookup-insert_same s.blocks a stored in
+        let here : block_at u a ≡ Some y = subst (λ z. block_at u z ≡ Some y) (same_from b a t) p in
+        let is_it : stored ≡ y = cc (there, here) in
+        inr (same_from b a t, sym (ap (λ z. block_of z) is_it))
+    put f false t = inl (sym (ap (λ x. lookup (is_at (address_cmp b)) x) f ∙ lookup-insert_other s.blocks a stored b t) ∙ p)
+
+    go : (found : Option StoredBlock) → u.blocks ≡ blocks_with found s.blocks a block epoch → (block_at s b ≡ Some y) ⊎ (b ≡ a) × (block_of y ≡ block)
+    go (Some x) f = inl (sym (ap (λ x. lookup (is_at (address_cmp b)) x) f) ∙ p)
+    go None f = put f (is_same b a) refl
+
 pub more_with : (s u : Store) (a : Address) (block : Block) (epoch : ℕ) → IsBlock block → u.blocks ≡ blocks_with (block_at s a) s.blocks a block epoch → HasMore s u
 more_with s u a block epoch is e = go (block_at s a) refl e
   where
@@ -94,13 +113,8 @@ more_with s u a block epoch is e = go (block_at s a) refl e
     at : u.blocks ≡ insert_entry address_cmp s.blocks a stored → (b : Address) → block_at u b ≡ lookup (is_at (address_cmp b)) (insert_entry address_cmp s.blocks a stored)
     at f b = ap (λ x. lookup (is_at (address_cmp b)) x) f
 
-    was : u.blocks ≡ insert_entry address_cmp s.blocks a stored → (b : Address) (y : StoredBlock) → (c : Bool) → is_same b a ≡ c → block_at u b ≡ Some y → (block_at s b ≡ Some y) ⊎ IsBlock (block_of y)
-    was f b y true t p =
-        let there : block_at u a ≡ Some stored = at f a ∙ lookup-insert_same s.blocks a stored in
-        let here : block_at u a ≡ Some y = subst (λ z. block_at u z ≡ Some y) (same_from b a t) p in
-        let is_it : stored ≡ y = cc (there, here) in
-        inr (subst (λ z. IsBlock (block_of z)) is_it is)
-    was f b y false t p = inl (sym (at f b ∙ lookup-insert_other s.blocks a stored b t) ∙ p)
+    was : (b : Address) (y : StoredBlock) → block_at u b ≡ Some y → (block_at s b ≡ Some y) ⊎ IsBlock (block_of y)
+    was b y p = elim (was_or_put s u a block epoch e b y p) [ inl q ↦ inl q | inr q ↦ inr (subst (λ z. IsBlock z) (sym q.1) is) ]
 
     same : u.blocks ≡ insert_entry address_cmp s.blocks a stored → block_at s a ≡ None → (b : Address) (x y : StoredBlock) → (c : Bool) → is_same b a ≡ c → block_at s b ≡ Some x → block_at u b ≡ Some y → x ≡ y
     same f n b x y true t p q = let here : block_at s a ≡ Some x = subst (λ z. block_at s z ≡ Some x) (same_from b a t) p in cc (n, here)
@@ -108,7 +122,7 @@ more_with s u a block epoch is e = go (block_at s a) refl e
 
     go : (found : Option StoredBlock) → block_at s a ≡ found → u.blocks ≡ blocks_with found s.blocks a block epoch → HasMore s u
     go (Some x) h f = more_same s u f
-    go None h f = record { was = λ b y p. was f b y (is_same b a) refl p; same = λ b x y p q. same f h b x y (is_same b a) refl p q }
+    go None h f = record { was = was; same = λ b x y p q. same f h b x y (is_same b a) refl p q }
 
 pub judge_sane : (limits : Limits) (s : Store) (o : Op) → IsSane s → HasMore s (judge limits s o).store → IsSane (judge limits s o).store
 judge_sane limits s o sane more =

@@ -1,6 +1,6 @@
 -- What holds of an asker that tells with what it began.
 use Rattle.std.specs.List.{AllByRecursion}
-use Rattle.std.specs.Prelude.{◌≡◌, Some}
+use Rattle.std.specs.Prelude.{◌≡◌, ℕ, List, Some}
 use Rattle.hs_journal.specs.Events.{IsAnswered}
 use Rattle.hs_journal.specs.declared.entry.JournalEntry.{JournalEntry}
 use Rattle.hs_journal.specs.declared.entry.Who.TheVariants as who
@@ -15,9 +15,12 @@ use Rattle.hs_model.specs.declared.deed.Deed.TheVariants as deed
 use Rattle.hs_model.specs.declared.store.StoredBlock.{StoredBlock}
 use Rattle.hs_asking.specs.Shown.{Began, Shown, events_since}
 
--- each block of the store stands at its name
+-- each present block stands at its name
+abbrev pub StandNamed : (List ℕ → Address) → Store → Type 0
+StandNamed name s = (a : Address) (stored : StoredBlock) → block_at s a ≡ Some stored → a ≡ name (spell (block_of stored))
+
 abbrev pub StandAtNames : Began → Type 0
-StandAtNames b = (a : Address) (stored : StoredBlock) → block_at b.store a ≡ Some stored → a ≡ b.name (spell (block_of stored))
+StandAtNames b = StandNamed b.name b.store
 
 -- the blocks of a store are within the bounds of blocks
 abbrev pub AreBlocks : Store → Type 0

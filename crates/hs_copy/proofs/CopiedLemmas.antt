@@ -16,7 +16,7 @@ leads_more : (t : Store) (a : Address) (path : List Address) (b next : Address) 
 leads_more t a [] b next l c = (subst (λ z. Contains (pointers_of (block_at t z)) next) (sym l) c, refl)
 leads_more t a (x ∷ path) b next l c = (l.0, leads_more t x path b next l.1 c)
 
-reached_more : (t : Store) (top b next : Address) → IsReached t (top ∷ []) b → Contains (pointers_of (block_at t b)) next → IsReached t (top ∷ []) next
+pub reached_more : (t : Store) (top b next : Address) → IsReached t (top ∷ []) b → Contains (pointers_of (block_at t b)) next → IsReached t (top ∷ []) next
 reached_more t top b next r c = record { start = r.start; path = r.path ++ next ∷ []; anchored = r.anchored; leads = leads_more t r.start r.path b next r.leads c }
 
 -- where no name stands twice, a name is of one block

@@ -3,18 +3,21 @@ use Rattle.std.proofs.Common.{◌≡◌, ◌∙◌, inl, inr, ℕ, ◌+◌, ◌<
 use Rattle.std.proofs.lemmas.List.{length-append}
 use Rattle.std.proofs.lemmas.List.Elements.{Contains-get_or}
 use Rattle.std.specs.List.{AllByRecursion}
-use Rattle.hs_asking.specs.Shown.{Shown, store_now}
+use Rattle.hs_asking.specs.Shown.{IfTold, Shown, store_now}
+use Rattle.hs_copy.proofs.BackLemmas.{copied_later}
+use Rattle.hs_copy.proofs.CopiedLemmas.{copied_from}
 use Rattle.hs_copy.proofs.HeardLemmas.{deletes-append, heard_asked, heard_began, heard_then, ops-append}
 use Rattle.hs_copy.proofs.ListLemmas.{told_last}
 use Rattle.hs_copy.proofs.ThereLemmas.{there_last}
 use Rattle.hs_copy.specs.Calls.{CallFails}
-use Rattle.hs_copy.specs.Copying.{FirstEnds, HasCopied, IsOfLast, IsPart, IsPartOf, IsStopped, IsTail, SecondEnds}
+use Rattle.hs_copy.specs.Copied.{IsCopied}
+use Rattle.hs_copy.specs.Copying.{AreThere, FirstEnds, HasCopied, IsOfLast, IsPart, IsPartOf, IsStopped, IsTail, SecondEnds}
 use Rattle.hs_copy.specs.Faults.{IsFirst, IsSecond}
-use Rattle.hs_copy.specs.Finding.{EndsSo, IsToldLast, ListingStops}
+use Rattle.hs_copy.specs.Finding.{EndsSo, IsRootCause, IsToldLast, ListingStops}
 use Rattle.hs_copy.specs.Heard.{AreHeard, joined, ops_of}
-use Rattle.hs_copy.specs.Listing.{HasListed, name_of, reads_in}
+use Rattle.hs_copy.specs.Listing.{AreAllOf, AreDifferent, HasListed, name_of, reads_in}
 use Rattle.hs_copy.specs.Placing.{AreBelow}
-use Rattle.hs_copy.specs.Rounds.{ForgetStops, IsEnd, IsForgetEnd, IsNext, RootDone, RootStops, RoundStale, RoundsBroken, address_at, block_in, blocks_of, writes_of}
+use Rattle.hs_copy.specs.Rounds.{ForgetStops, IsEnd, IsForgetEnd, IsNext, IsWriteCause, RootDone, RootStops, RoundStale, RoundsBroken, address_at, block_in, blocks_of, writes_of}
 use Rattle.hs_copy.specs.Rounds.RootStops.{opened, unopened}
 use Rattle.hs_copy.specs.Rounds.RoundsStop.{in_forgets, in_round}
 use Rattle.hs_copy.specs.Writing.{AreChildrenFirst, ComesNext, HasWritten, IsForget, IsForgetDone, IsWorkDone, deletes_in}
@@ -33,7 +36,8 @@ use Rattle.hs_model.specs.declared.reply.Reply.{Reply}
 use Rattle.hs_model.specs.declared.reply.Reply.TheVariants as reply
 use Rattle.hs_tree.specs.Calls.{HasAskedLast, Hears}
 use Rattle.hs_tree.specs.Growing.{writes_in}
-use Rattle.hs_tree.specs.Storing.{our_session}
+use Rattle.hs_tree.specs.Fetching.{IsAlone}
+use Rattle.hs_tree.specs.Storing.{IsIdle, our_session}
 
 -- ---- children first
 
@@ -391,39 +395,45 @@ module _ (name : List ℕ → Address) (key : List ℕ) (placed : List Placed) w
 
   second_stops : {Q : Type 0} (u v : Shown Q) (f : PartFault) → u.ended ≡ None → RootStops name key u v placed f → SecondStops name key u v placed f
   second_stops u v f going (unopened c) = open_stops u v f going c
-  second_stops u v f going (opened first h (in_round n few mid c b nodes broken r)) = round_ends u first mid r.mid n c few h broken r.work r.done r.heard r.back r.writes v f r.calm r.deletes r.end
-  second_stops u v f going (opened first h (in_forgets n few mid stale c b nodes broken s most g)) = forgets_end u first mid stale v n c b nodes f few h broken s most g
+  second_stops u v f going (opened first h (in_round n few mid c b nodes broken r caught)) = round_ends u first mid r.mid n c few h broken r.work r.done r.heard r.back r.writes v f r.calm r.deletes r.end
+  second_stops u v f going (opened first h (in_forgets n few mid stale c b nodes broken s most g granted)) = forgets_end u first mid stale v n c b nodes f few h broken s most g
 
 -- ---- the whole
 
-pub first_stopped : {P Q : Type 0} (name : List ℕ → Address) (key : List ℕ) (s t : Shown P) (u : Shown Q) (f : PartFault) (g : CopyFault) → u.ended ≡ None → IsFirst f g → ListingStops key s t f → IsStopped name key s t u u g
-first_stopped name key s t u f g going is h = record {
+pub first_stopped : {P Q : Type 0} (name : List ℕ → Address) (key : List ℕ) (s t : Shown P) (u : Shown Q) (f : PartFault) (g : CopyFault) → u.ended ≡ None → IsFirst f g → ListingStops key s t f → IfTold s (λ b. IsRootCause (store_now b s) key f) → IsStopped name key s t u u g
+first_stopped name key s t u f g going is h cause = record {
   reads = h.ops;
   read = h.asked;
   listing = h.kinds;
   few = h.few;
   first_began = h.began;
-  first_ended = (ends f g is h.ended h.last).0;
+  first_ended = (ends f g is h.ended h.last cause).0;
   blocks = [];
   children_first = tt;
   ops = [];
   asked = sym (append-nil u.asked);
   part = inl refl;
+  most = omega arith;
+  all = λ some. absurd (some refl);
   second_began = refl;
-  second_ended = (ends f g is h.ended h.last).1;
-  last = (ends f g is h.ended h.last).2;
+  second_ended = (ends f g is h.ended h.last cause).1;
+  last = (ends f g is h.ended h.last cause).2;
 }
   where
-    ends : (f : PartFault) (g : CopyFault) → IsFirst f g → EndsSo t.ended f → IsToldLast s t f → FirstEnds t.ended g × SecondEnds u.ended g × IsOfLast s t u u g
-    ends (part.Core core) g is e l = subst (λ z. FirstEnds t.ended z × SecondEnds u.ended z × IsOfLast s t u u z) (sym is) (e, going, (l.0, l.1, refl))
-    ends (part.Refused told) g is e l = subst (λ z. FirstEnds t.ended z × SecondEnds u.ended z × IsOfLast s t u u z) (sym is) (e, going, inl ((l.0, l.1, l.2), refl))
-    ends part.TooMany g is e l = subst (λ z. FirstEnds t.ended z × SecondEnds u.ended z × IsOfLast s t u u z) (sym is) (e, going, (refl, refl))
-    ends part.NoMemory g is e l = subst (λ z. FirstEnds t.ended z × SecondEnds u.ended z × IsOfLast s t u u z) (sym is) (e, going, tt)
+    ends : (f : PartFault) (g : CopyFault) → IsFirst f g → EndsSo t.ended f → IsToldLast s t f → IfTold s (λ b. IsRootCause (store_now b s) key f) → FirstEnds t.ended g × SecondEnds u.ended g × IsOfLast key s t u u g
+    ends (part.Core core) g is e l w = subst (λ z. FirstEnds t.ended z × SecondEnds u.ended z × IsOfLast key s t u u z) (sym is) (e, going, (l.0, l.1, refl))
+    ends (part.Refused told) g is e l w = subst (λ z. FirstEnds t.ended z × SecondEnds u.ended z × IsOfLast key s t u u z) (sym is) (e, going, inl ((l.0, l.1, l.2), refl, w))
+    ends part.TooMany g is e l w = subst (λ z. FirstEnds t.ended z × SecondEnds u.ended z × IsOfLast key s t u u z) (sym is) (e, going, (refl, refl, w))
+    ends part.NoMemory g is e l w = subst (λ z. FirstEnds t.ended z × SecondEnds u.ended z × IsOfLast key s t u u z) (sym is) (e, going, tt)
 
-pub second_stopped : {P Q : Type 0} (name : List ℕ → Address) (key : List ℕ) (s t : Shown P) (u v : Shown Q) (placed : List Placed) (f : PartFault) (g : CopyFault) → u.ended ≡ None → length placed ≤ 4000 → HasListed key s t (length placed) → AreBelow 0 placed → IsSecond f g → RootStops name key u v placed f → IsStopped name key s t u v g
-second_stopped name key s t u v placed f g going few listed below is h =
+-- what was listed is all of the key, by this naming
+all_named : {P : Type 0} (name : List ℕ → Address) (key : List ℕ) (s : Shown P) (placed : List Placed) → IfTold s (λ b. IsIdle name b s) → IfTold s (λ b. AreAllOf b.name (store_now b s) key (blocks_of b.name [] placed)) → IfTold s (λ b. AreAllOf name (store_now b s) key (blocks_of name [] placed))
+all_named name key s placed idle all is = subst (λ (n : List ℕ → Address). AreAllOf n (store_now s.began s) key (blocks_of n [] placed)) (idle is).named (all is)
+
+pub second_stopped : {P Q : Type 0} (name : List ℕ → Address) (key : List ℕ) (s t : Shown P) (u v : Shown Q) (placed : List Placed) (f : PartFault) (g : CopyFault) → u.ended ≡ None → length placed ≤ 4000 → HasListed key s t (length placed) → AreBelow 0 placed → IfTold s (λ b. IsIdle name b s) → IfTold s (λ b. AreAllOf b.name (store_now b s) key (blocks_of b.name [] placed)) → IsSecond f g → RootStops name key u v placed f → IsWriteCause key u f → IsStopped name key s t u v g
+second_stopped name key s t u v placed f g going few listed below idle all is h cause =
     let k = second_stops name key placed u v f going h in
-    let e = ends f g is k.ended k.last in
+    let e = ends f g is k.ended k.last cause in
     record {
       reads = op.Open our_session ∷ (op.Look our_session key ∷ listed.ops);
       read = listed.asked;
@@ -436,16 +446,18 @@ second_stopped name key s t u v placed f g going few listed below is h =
       ops = k.ops;
       asked = k.asked;
       part = k.part_of;
+      most = let long : length (blocks_of name [] placed) ≡ length placed = blocks-length name [] placed in omega (arith, long, few);
+      all = λ some. all_named name key s placed idle all;
       second_began = k.began;
       second_ended = e.1;
       last = e.2;
     }
   where
-    ends : (f : PartFault) (g : CopyFault) → IsSecond f g → EndsSo v.ended f → IsToldLast u v f → FirstEnds t.ended g × SecondEnds v.ended g × IsOfLast s t u v g
-    ends (part.Core core) g is e l = subst (λ z. FirstEnds t.ended z × SecondEnds v.ended z × IsOfLast s t u v z) (sym is) (listed.going, e, l)
-    ends (part.Refused told) g is e l = subst (λ z. FirstEnds t.ended z × SecondEnds v.ended z × IsOfLast s t u v z) (sym is) (listed.going, e, inr l)
-    ends part.TooMany g is e l = subst (λ z. FirstEnds t.ended z × SecondEnds v.ended z × IsOfLast s t u v z) (sym is) (listed.going, e, tt)
-    ends part.NoMemory g is e l = subst (λ z. FirstEnds t.ended z × SecondEnds v.ended z × IsOfLast s t u v z) (sym is) (listed.going, e, tt)
+    ends : (f : PartFault) (g : CopyFault) → IsSecond f g → EndsSo v.ended f → IsToldLast u v f → IsWriteCause key u f → FirstEnds t.ended g × SecondEnds v.ended g × IsOfLast key s t u v g
+    ends (part.Core core) g is e l w = subst (λ z. FirstEnds t.ended z × SecondEnds v.ended z × IsOfLast key s t u v z) (sym is) (listed.going, e, l)
+    ends (part.Refused told) g is e l w = subst (λ z. FirstEnds t.ended z × SecondEnds v.ended z × IsOfLast key s t u v z) (sym is) (listed.going, e, inr ((l.0, l.1, l.2), w))
+    ends part.TooMany g is e l w = subst (λ z. FirstEnds t.ended z × SecondEnds v.ended z × IsOfLast key s t u v z) (sym is) (listed.going, e, tt)
+    ends part.NoMemory g is e l w = subst (λ z. FirstEnds t.ended z × SecondEnds v.ended z × IsOfLast key s t u v z) (sym is) (listed.going, e, tt)
 
 -- nothing was begun
 pub unbegun : {P Q : Type 0} (name : List ℕ → Address) (key : List ℕ) (s : Shown P) (u : Shown Q) → s.ended ≡ None → u.ended ≡ None → IsStopped name key s s u u fault.NoMemory
@@ -461,15 +473,20 @@ unbegun name key s u calm going = record {
   ops = [];
   asked = sym (append-nil u.asked);
   part = inl refl;
+  most = omega arith;
+  all = λ some. absurd (some refl);
   second_began = refl;
   second_ended = going;
   last = tt;
 }
 
-pub is_copied : {P Q : Type 0} (name : List ℕ → Address) (key : List ℕ) (s t : Shown P) (u v : Shown Q) (placed : List Placed) → length placed ≤ 4000 → HasListed key s t (length placed) → AreBelow 0 placed → RootDone name key u v placed → HasCopied name key s t u v (length placed)
-is_copied name key s t u v placed few listed below h =
+pub is_copied : {P Q : Type 0} (name : List ℕ → Address) (key : List ℕ) (s t : Shown P) (u v : Shown Q) (placed : List Placed) → length placed ≤ 4000 → HasListed key s t (length placed) → AreBelow 0 placed → IfTold s (λ b. IsIdle name b s) → IfTold s (λ b. AreAllOf b.name (store_now b s) key (blocks_of b.name [] placed)) → RootDone name key u v placed → HasCopied name key s t u v (length placed)
+is_copied name key s t u v placed few listed below idle reached h =
     let blocks : List Block = blocks_of name [] placed in
     let first : AreChildrenFirst name [] blocks = children_first name [] 0 refl placed below in
+    let all : IfTold s (λ b. AreAllOf name (store_now b s) key blocks) = all_named name key s placed idle reached in
+    let there : IfTold v (λ c. AreDifferent (map (name_of name) blocks) → AreThere name (store_now c v) key blocks) = λ is different. there_last name (store_now v.began v) key placed first (h.done.done.sane is) (h.done.done.kept is) (h.done.done.mine is different) in
+    let copied : IfTold s (λ b. IfTold v (λ c. IsCopied (store_now b s) (store_now c v) key)) = λ is so. copied_from name (store_now s.began s) (store_now v.began v) key blocks (all is) (there so (all is).addresses.once) in
     record {
       blocks = blocks;
       counted = sym (blocks-length name [] placed);
@@ -477,12 +494,19 @@ is_copied name key s t u v placed few listed below h =
       children_first = first;
       listed = listed;
       written = written_from name key u v placed h;
-      there = λ is different. there_last name (store_now v.began v) key placed first (h.done.done.sane is) (h.done.done.kept is) (h.done.done.mine is different);
+      all = all;
+      there = there;
+      copied = copied;
+      still = λ is so. copied_later (store_now s.began s) (store_now s.began t) (store_now v.began v) key (listed.keeps is) (copied is so);
     }
 
-pub copied_as : {P Q : Type 0} (name : List ℕ → Address) (key : List ℕ) (s t : Shown P) (u v : Shown Q) (placed seen other : List Placed) (n : ℕ) → length placed ≤ 4000 → HasListed key s t (length placed) → AreBelow 0 placed → seen ≡ placed → RootDone name key u v seen → other ≡ placed → n ≡ length other → HasCopied name key s t u v n
-copied_as name key s t u v placed seen other n few listed below same h again count =
-    subst (λ z. HasCopied name key s t u v z) (sym (count ∙ ap (λ z. length z) again)) (is_copied name key s t u v placed few listed below (subst (λ z. RootDone name key u v z) same h))
+pub copied_as : {P Q : Type 0} (name : List ℕ → Address) (key : List ℕ) (s t : Shown P) (u v : Shown Q) (placed seen other : List Placed) (n : ℕ) → length placed ≤ 4000 → HasListed key s t (length placed) → AreBelow 0 placed → IfTold s (λ b. IsIdle name b s) → IfTold s (λ b. AreAllOf b.name (store_now b s) key (blocks_of b.name [] placed)) → seen ≡ placed → RootDone name key u v seen → other ≡ placed → n ≡ length other → HasCopied name key s t u v n
+copied_as name key s t u v placed seen other n few listed below idle all same h again count =
+    subst (λ z. HasCopied name key s t u v z) (sym (count ∙ ap (λ z. length z) again)) (is_copied name key s t u v placed few listed below idle all (subst (λ z. RootDone name key u v z) same h))
 
-pub stopped_as : {P Q : Type 0} (name : List ℕ → Address) (key : List ℕ) (s t : Shown P) (u v : Shown Q) (placed seen : List Placed) (f : PartFault) (g : CopyFault) → u.ended ≡ None → length placed ≤ 4000 → HasListed key s t (length placed) → AreBelow 0 placed → IsSecond f g → seen ≡ placed → RootStops name key u v seen f → IsStopped name key s t u v g
-stopped_as name key s t u v placed seen f g going few listed below is same h = second_stopped name key s t u v placed f g going few listed below is (subst (λ z. RootStops name key u v z f) same h)
+pub stopped_as : {P Q : Type 0} (name : List ℕ → Address) (key : List ℕ) (s t : Shown P) (u v : Shown Q) (placed seen : List Placed) (f : PartFault) (g : CopyFault) → u.ended ≡ None → length placed ≤ 4000 → HasListed key s t (length placed) → AreBelow 0 placed → IfTold s (λ b. IsIdle name b s) → IfTold s (λ b. AreAllOf b.name (store_now b s) key (blocks_of b.name [] placed)) → IsSecond f g → seen ≡ placed → RootStops name key u v seen f → IsWriteCause key u f → IsStopped name key s t u v g
+stopped_as name key s t u v placed seen f g going few listed below idle all is same h cause = second_stopped name key s t u v placed f g going few listed below idle all is (subst (λ z. RootStops name key u v z f) same h) cause
+
+-- a store that is idle is so of whatever naming
+pub alone_from : {P : Type 0} (name : List ℕ → Address) (s : Shown P) → IfTold s (λ b. IsIdle name b s) → IfTold s (λ b. IsAlone b s)
+alone_from name s idle is = let i = idle is in record { none_open = i.none_open; limits = i.limits }

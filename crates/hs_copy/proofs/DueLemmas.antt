@@ -140,7 +140,7 @@ root_refuses c d old mid new session key handle (Err part.NoMemory) h k = tt
 pub tried_so : {T : Type 0} (P : Type 0) (r : Result T PartFault) (t : Result Bool PartFault) → IsTriedAs r t → OnOk r P → IfErr r (λ f. WhereRefused f P) → IfOk t (λ whole. P)
 tried_so P (Ok x) t e h k = subst (λ z. IfOk z (λ whole. P)) (sym e) h
 tried_so P (Err (part.Refused told)) t (inl e) h k = subst (λ z. IfOk z (λ whole. P)) (sym e.0) k
-tried_so P (Err (part.Refused told)) t (inr e) h k = subst (λ z. IfOk z (λ whole. P)) (sym e) tt
+tried_so P (Err (part.Refused told)) t (inr e) h k = subst (λ z. IfOk z (λ whole. P)) (sym e.0) tt
 tried_so P (Err (part.Core core)) t e h k = subst (λ z. IfOk z (λ whole. P)) (sym e) tt
 tried_so P (Err part.TooMany) t e h k = subst (λ z. IfOk z (λ whole. P)) (sym e) tt
 tried_so P (Err part.NoMemory) t e h k = subst (λ z. IfOk z (λ whole. P)) (sym e) tt

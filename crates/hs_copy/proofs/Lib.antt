@@ -11,6 +11,10 @@ pub mod DueLemmas
 pub mod DueExamples
 pub mod WholeLemmas
 pub mod ListingLemmas
+pub mod BackLemmas
+pub mod ReadLemmas
+pub mod AllLemmas
+pub mod FailLemmas
 pub mod ListLemmas
 pub mod PlaceLemmas
 pub mod StepLemmas
@@ -18,3 +22,6 @@ pub mod ThereLemmas
 pub mod CopyLemmas
 pub mod Examples
 pub mod CopiedLemmas
+pub mod CountLemmas
+pub mod EpochLemmas
+pub mod CauseLemmas

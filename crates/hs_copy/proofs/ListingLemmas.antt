@@ -6,7 +6,9 @@ use Rattle.std.specs.List.{AllZip}
 use Rattle.std.specs.Map.{lookup}
 use Rattle.hs_asking.proofs.AloneLemmas.{forgets_alone}
 use Rattle.hs_asking.proofs.SeatLemmas.{seat_held}
+use Rattle.hs_asking.specs.Alone.{IsForgot}
 use Rattle.hs_asking.specs.Judged.{IsJudged}
+use Rattle.hs_asking.specs.Seats.{HasSeat}
 use Rattle.hs_asking.specs.Shown.{Began, Shown, store_now}
 use Rattle.hs_asking.specs.Staying.{Stays}
 use Rattle.hs_copy.proofs.BlockLemmas.{head_or, some_is, tail_of}
@@ -28,13 +30,13 @@ use Rattle.hs_model.specs.Store.{Root, Store, address_cmp, held_at}
 use Rattle.hs_model.specs.declared.op.Op.TheVariants as op
 use Rattle.hs_model.specs.declared.reply.Reply.{Reply}
 use Rattle.hs_model.specs.declared.reply.Reply.TheVariants as reply
-use Rattle.hs_tree.proofs.GrowLemmas.{zip_split}
+use Rattle.hs_tree.proofs.GrowLemmas.{zip_append, zip_split}
 use Rattle.hs_tree.specs.Calls.{Hears}
 use Rattle.hs_tree.specs.Storing.{our_session}
 
 -- ---- what is reached stays
 
-from_top : (s : Store) (top a : Address) (r : IsReached s (top ∷ []) a) → Leads s top r.path a
+pub from_top : (s : Store) (top a : Address) (r : IsReached s (top ∷ []) a) → Leads s top r.path a
 from_top s top a r = subst (λ z. Leads s z r.path a) (elim (member_from_contains r.start (top ∷ []) r.anchored) [ inl e ↦ e | inr n ↦ absurd n ]) r.leads
 
 pub reached_stays : (s t : Store) (top a : Address) → Stays s t top → IsReached s (top ∷ []) a → IsReached t (top ∷ []) a
@@ -47,7 +49,7 @@ listed_stays s t top found n x st reached h =
 
 -- ---- one more address
 
-different_more : (xs : List Address) (a : Address) → AreDifferent xs → (Contains xs a → ⊥) → AreDifferent (xs ++ a ∷ [])
+pub different_more : (xs : List Address) (a : Address) → AreDifferent xs → (Contains xs a → ⊥) → AreDifferent (xs ++ a ∷ [])
 different_more [] a d new = ((λ c. absurd (member_from_contains a [] c)), tt)
 different_more (x ∷ xs) a d new = (
   (λ c. elim (member-append x xs (a ∷ []) (member_from_contains x (xs ++ a ∷ []) c)) [
@@ -101,50 +103,57 @@ numbered_more numbers found a h = record { stands = λ b n e. stands b n (is_sam
             cc (none, there)
 
 -- the first one stays where there is one
-first_stays : (found xs ys : List Found) (n : ℕ) (a top : Address) → slice_get (addresses_of found) n ≡ Some a → slice_get (addresses_of (found ++ xs)) 0 ≡ Some top → slice_get (addresses_of (found ++ ys)) 0 ≡ Some top
+pub first_stays : (found xs ys : List Found) (n : ℕ) (a top : Address) → slice_get (addresses_of found) n ≡ Some a → slice_get (addresses_of (found ++ xs)) 0 ≡ Some top → slice_get (addresses_of (found ++ ys)) 0 ≡ Some top
 first_stays [] xs ys n a top e h = cc e
 first_stays (f ∷ found) xs ys n a top e h = h
 
-zip_join : {A B : Type 0} (R : A → B → Type 0) (xs us : List A) (ys vs : List B) → AllZip R xs ys → AllZip R us vs → AllZip R (xs ++ us) (ys ++ vs)
-zip_join R [] us [] vs h k = k
-zip_join R [] us (y ∷ ys) vs h k = absurd h
-zip_join R (x ∷ xs) us [] vs h k = absurd h
-zip_join R (x ∷ xs) us (y ∷ ys) vs h k = (h.0, zip_join R xs us ys vs h.1 k)
+-- one of those that a session holds is forgotten
+pub record Forgets (s t : Store) (next : ℕ) (es : List (ℕ × Held)) (xs : List Found) (told : Reply) : Type 0 where
+  pub left : List (ℕ × Held)
+  pub is : IsForgot s t our_session next es left told
+  pub held : AllZip IsHeldAs xs left
+
+pub forget_one : (limits : Limits) (s t : Store) (next : ℕ) (es : List (ℕ × Held)) → HasSeat s our_session next es → (front : List Found) (w : Found) (back : List Found) (told : Reply) → AllZip IsHeldAs (front ++ w ∷ back) es → IsJudged limits s t (op.Forget our_session w.handle) told → Forgets s t next es (front ++ back) told
+forget_one limits s t next es seat front w back told held j =
+    let sp = zip_split IsHeldAs front (w ∷ back) es held in
+    go sp.left sp.right sp.whole sp.first sp.second
+  where
+    go : (left right : List (ℕ × Held)) → es ≡ left ++ right → AllZip IsHeldAs front left → AllZip IsHeldAs (w ∷ back) right → Forgets s t next es (front ++ back) told
+    go left [] whole first second = absurd second
+    go left (x ∷ right) whole first second = record {
+      left = left ++ right;
+      is = forgets_alone limits s t our_session next es seat left x right told whole (subst (λ z. IsJudged limits s t (op.Forget our_session z) told) second.0.0 j);
+      held = zip_append IsHeldAs front left back right first second.1;
+    }
 
 -- what a listing says of all that was found stays with what the root leads to
 module _ (limits : Limits) (key : List ℕ) (root : Root) (numbers : List (Address × ℕ)) (found : List Found) (listed : List Listed) where
-  blocks_stay : (s t : Store) → Stays s t root.address → ((f : Found) → Member f found → IsReached s (root.address ∷ []) f.address) → (n : ℕ) (x : Listed) → HasListedAt s (addresses_of found) n x → HasListedAt t (addresses_of found) n x
+  pub blocks_stay : (s t : Store) → Stays s t root.address → ((f : Found) → Member f found → IsReached s (root.address ∷ []) f.address) → (n : ℕ) (x : Listed) → HasListedAt s (addresses_of found) n x → HasListedAt t (addresses_of found) n x
   blocks_stay s t st reached n x h = listed_stays s t root.address (addresses_of found) n x st
       (λ a m. let r = member_of_map (λ (f : Found). f.address) a found m in subst (λ z. IsReached s (root.address ∷ []) z) (sym r.2) (reached r.0 r.1)) h
 
   -- one that was found before is forgotten
   pub number_known : (k : ℕ) (w : Found) (rest : List Found) (s t : Store) (n : ℕ) (told : Reply) → IsListing s key root numbers found listed k (w ∷ rest) → lookup (is_at (address_cmp w.address)) numbers ≡ Some n → IsJudged limits s t (op.Forget our_session w.handle) told → IsListing t key root numbers found listed k rest
   number_known k w rest s t n told h e j =
-      let sp = zip_split IsHeldAs h.ahead (w ∷ rest) h.entries h.held in
-      go sp.left sp.right sp.whole sp.first sp.second
-    where
-      go : (front right : List (ℕ × Held)) → h.entries ≡ front ++ right → AllZip IsHeldAs h.ahead front → AllZip IsHeldAs (w ∷ rest) right → IsListing t key root numbers found listed k rest
-      go front [] whole first second = absurd second
-      go front (x ∷ back) whole first second =
-          let own = judged_own limits s t (op.Forget our_session w.handle) told h.seat.sane (λ key. tt) j in
-          let st : Stays s t root.address = own.0.blocks key root h.kept in
-          let f = forgets_alone limits s t our_session h.next h.entries h.seat front x back told whole (subst (λ z. IsJudged limits s t (op.Forget our_session z) told) second.0.0 j) in
-          record {
-            kept = own.0.roots key root h.kept;
-            numbered = h.numbered;
-            once = h.once;
-            first = first_stays found (w ∷ rest) rest n w.address root.address (h.numbered.stands w.address n e) h.first;
-            reached = λ g m. reached_stays s t root.address g.address st (h.reached g (elim (member-append g found rest m) [ inl p ↦ member-append_left g found (w ∷ rest) p | inr p ↦ member-append_right g found (w ∷ rest) (inr p) ]));
-            blocks = λ i x q. blocks_stay s t st (λ g m. h.reached g (member-append_left g found (w ∷ rest) m)) i x (h.blocks i x q);
-            behind = h.behind;
-            ahead = h.ahead;
-            split = h.split;
-            counted = h.counted;
-            next = h.next;
-            entries = front ++ back;
-            seat = f.goes.seat;
-            held = zip_join IsHeldAs h.ahead rest front back first second.1;
-          }
+      let own = judged_own limits s t (op.Forget our_session w.handle) told h.seat.sane (λ key. tt) j in
+      let st : Stays s t root.address = own.0.blocks key root h.kept in
+      let f = forget_one limits s t h.next h.entries h.seat h.ahead w rest told h.held j in
+      record {
+        kept = own.0.roots key root h.kept;
+        numbered = h.numbered;
+        once = h.once;
+        first = first_stays found (w ∷ rest) rest n w.address root.address (h.numbered.stands w.address n e) h.first;
+        reached = λ g m. reached_stays s t root.address g.address st (h.reached g (elim (member-append g found rest m) [ inl p ↦ member-append_left g found (w ∷ rest) p | inr p ↦ member-append_right g found (w ∷ rest) (inr p) ]));
+        blocks = λ i x q. blocks_stay s t st (λ g m. h.reached g (member-append_left g found (w ∷ rest) m)) i x (h.blocks i x q);
+        behind = h.behind;
+        ahead = h.ahead;
+        split = h.split;
+        counted = h.counted;
+        next = h.next;
+        entries = f.left;
+        seat = f.is.goes.seat;
+        held = f.held;
+      }
 
 module _ (key : List ℕ) (root : Root) (numbers : List (Address × ℕ)) (found : List Found) (listed : List Listed) (k : ℕ) (w : Found) (rest : List Found) where
   -- one that was not found before
@@ -186,7 +195,7 @@ waits_for key root numbers found listed k w rest s h held e =
 -- ---- one call
 
 module _ {tells : Type 0} (old : Shown tells) (handle : ℕ) (numbers : List (Address × ℕ)) (found : List Found) (a : Address) (stands : IsHeldAddress old our_session handle a) where
-  its_address : tells → (key : List ℕ) (root : Root) (listed : List Listed) (k : ℕ) (w : Found) (rest : List Found) → w.handle ≡ handle → IsListing (store_now old.began old) key root numbers found listed k (w ∷ rest) → w.address ≡ a
+  pub its_address : tells → (key : List ℕ) (root : Root) (listed : List Listed) (k : ℕ) (w : Found) (rest : List Found) → w.handle ≡ handle → IsListing (store_now old.began old) key root numbers found listed k (w ∷ rest) → w.address ≡ a
   its_address is key root listed k w rest same h =
       let x = stands is in
       sym (waits_for key root numbers found listed k w rest (store_now old.began old) h x.0 (x.1 ∙ ap (λ z. held_at (store_now old.began old) our_session z) (sym same))) ∙ x.2
@@ -224,23 +233,28 @@ module _ {tells : Type 0} (old : Shown tells) (handle : ℕ) (numbers : List (Ad
 
 -- ---- several
 
--- the last of a row that waited
-record SplitLast (ws : List Found) (hs : List ℕ) (handle : ℕ) : Type 0 where
+-- a row that waited, at one of its handles
+pub record SplitAt (ws : List Found) (hs : List ℕ) (handle : ℕ) (more : List ℕ) : Type 0 where
   pub front : List Found
-  pub last : Found
-  pub whole : ws ≡ front ++ last ∷ []
+  pub at : Found
+  pub back : List Found
+  pub whole : ws ≡ front ++ at ∷ back
   pub handles : map (λ (w : Found). w.handle) front ≡ hs
-  pub is : last.handle ≡ handle
+  pub is : at.handle ≡ handle
+  pub rest : map (λ (w : Found). w.handle) back ≡ more
 
-split_last : (ws : List Found) (hs : List ℕ) (handle : ℕ) → map (λ (w : Found). w.handle) ws ≡ hs ++ handle ∷ [] → SplitLast ws hs handle
-split_last [] [] handle e = cc e
-split_last [] (h ∷ hs) handle e = cc e
-split_last (w ∷ []) [] handle e = record { front = []; last = w; whole = refl; handles = refl; is = ap (λ z. head_or handle z) e }
-split_last (w ∷ v ∷ ws) [] handle e = let n : map (λ (w : Found). w.handle) (v ∷ ws) ≡ [] = ap (λ z. tail_of z) e in cc n
-split_last (w ∷ ws) (h ∷ hs) handle e =
-    let r = split_last ws hs handle (ap (λ z. tail_of z) e) in
+pub split_at : (ws : List Found) (hs : List ℕ) (handle : ℕ) (more : List ℕ) → map (λ (w : Found). w.handle) ws ≡ hs ++ handle ∷ more → SplitAt ws hs handle more
+split_at [] [] handle more e = cc e
+split_at [] (h ∷ hs) handle more e = cc e
+split_at (w ∷ ws) [] handle more e = record { front = []; at = w; back = ws; whole = refl; handles = refl; is = ap (λ z. head_or handle z) e; rest = ap (λ z. tail_of z) e }
+split_at (w ∷ ws) (h ∷ hs) handle more e =
+    let r = split_at ws hs handle more (ap (λ z. tail_of z) e) in
     let first : w.handle ≡ h = ap (λ z. head_or handle z) e in
-    record { front = w ∷ r.front; last = r.last; whole = ap (λ z. w ∷ z) r.whole; handles = λ i. first i ∷ r.handles i; is = r.is }
+    record { front = w ∷ r.front; at = r.at; back = r.back; whole = ap (λ z. w ∷ z) r.whole; handles = λ i. first i ∷ r.handles i; is = r.is; rest = r.rest }
+
+none_left : (ws : List Found) → map (λ (w : Found). w.handle) ws ≡ [] → ws ≡ []
+none_left [] e = refl
+none_left (w ∷ ws) e = cc e
 
 numbers_stay : (found more : List Address) (ptrs : List ℕ) (ws : List Found) → map (λ n. slice_get found n) ptrs ≡ map (λ (w : Found). Some w.address) ws → map (λ n. slice_get (found ++ more) n) ptrs ≡ map (λ (w : Found). Some w.address) ws
 numbers_stay found more [] [] e = refl
@@ -264,14 +278,15 @@ numbers_more {tells} old mid new hs handle m0 m1 m2 f0 f1 f2 ptrs n began h o = 
   more = h.more ++ o.more;
   grown = o.grown ∙ (ap (λ z. z ++ o.more) h.grown ∙ append_assoc f0 h.more o.more);
   goes = λ is key root listed k ws rest e l.
-      let sp = split_last ws hs handle e in
-      let first = h.goes is key root listed k sp.front (sp.last ∷ rest) sp.handles (subst (λ z. IsListing (store_now old.began old) key root m0 f0 listed k z) (ap (λ z. z ++ rest) sp.whole ∙ append_assoc sp.front (sp.last ∷ []) rest) l) in
-      let at : IsListing (store_now mid.began mid) key root m1 f1 listed k (sp.last ∷ rest) = subst (λ (z : Began). IsListing (store_now z mid) key root m1 f1 listed k (sp.last ∷ rest)) (sym h.began) first.0 in
-      let second = o.goes is key root listed k sp.last rest sp.is at in
+      let sp = split_at ws hs handle [] e in
+      let whole : ws ≡ sp.front ++ sp.at ∷ [] = sp.whole ∙ ap (λ z. sp.front ++ sp.at ∷ z) (none_left sp.back sp.rest) in
+      let first = h.goes is key root listed k sp.front (sp.at ∷ rest) sp.handles (subst (λ z. IsListing (store_now old.began old) key root m0 f0 listed k z) (ap (λ z. z ++ rest) whole ∙ append_assoc sp.front (sp.at ∷ []) rest) l) in
+      let at : IsListing (store_now mid.began mid) key root m1 f1 listed k (sp.at ∷ rest) = subst (λ (z : Began). IsListing (store_now z mid) key root m1 f1 listed k (sp.at ∷ rest)) (sym h.began) first.0 in
+      let second = o.goes is key root listed k sp.at rest sp.is at in
       let names : addresses_of f2 ≡ addresses_of f1 ++ addresses_of o.more = ap (λ z. addresses_of z) o.grown ∙ map-append (λ (f : Found). f.address) f1 o.more in
       let before : map (λ n. slice_get (addresses_of f2) n) ptrs ≡ map (λ (w : Found). Some w.address) sp.front = subst (λ z. map (λ n. slice_get z n) ptrs ≡ map (λ (w : Found). Some w.address) sp.front) (sym names) (numbers_stay (addresses_of f1) (addresses_of o.more) ptrs sp.front first.1) in (
         subst (λ (z : Began). IsListing (store_now z new) key root m2 f2 listed k rest) h.began second.0,
-        map-append (λ n. slice_get (addresses_of f2) n) ptrs (n ∷ []) ∙ (ap (λ z. z ++ slice_get (addresses_of f2) n ∷ []) before ∙ (ap (λ z. map (λ (w : Found). Some w.address) sp.front ++ z ∷ []) second.1 ∙ (sym (map-append (λ (w : Found). Some w.address) sp.front (sp.last ∷ [])) ∙ ap (λ z. map (λ (w : Found). Some w.address) z) (sym sp.whole)))),
+        map-append (λ n. slice_get (addresses_of f2) n) ptrs (n ∷ []) ∙ (ap (λ z. z ++ slice_get (addresses_of f2) n ∷ []) before ∙ (ap (λ z. map (λ (w : Found). Some w.address) sp.front ++ z ∷ []) second.1 ∙ (sym (map-append (λ (w : Found). Some w.address) sp.front (sp.at ∷ [])) ∙ ap (λ z. map (λ (w : Found). Some w.address) z) (sym whole)))),
       );
 }
 

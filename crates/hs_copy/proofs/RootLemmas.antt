@@ -1,19 +1,22 @@
 -- The root that ends a beginning, and the forgets where it was stale.
-use Rattle.std.proofs.Common.{◌≡◌, ◌∙◌, inl, inr, ℕ, ◌+◌, ◌≤◌, List, [], ◌∷◌, ◌++◌, None, refl, sym, ap, subst, arith, append-nil, append_assoc, length, map}
+use Rattle.std.proofs.Common.{◌≡◌, ◌∙◌, inl, inr, ℕ, ◌+◌, ◌≤◌, List, [], ◌∷◌, ◌++◌, None, false, refl, sym, ap, subst, arith, append-nil, append_assoc, length, map}
 use Rattle.std.proofs.lemmas.List.{length-append, map-append}
 use Rattle.std.specs.List.{AllByRecursion, AllZip}
 use Rattle.hs_asking.proofs.HandLemmas.{all_append}
 use Rattle.hs_asking.specs.Judged.{IsJudged}
 use Rattle.hs_asking.specs.Seats.{IsSane}
-use Rattle.hs_asking.specs.Shown.{Began, Shown, store_now}
+use Rattle.hs_asking.specs.Shown.{Began, IfTold, Shown, store_now}
+use Rattle.hs_asking.specs.Telling.{grants, is_ok}
+use Rattle.hs_copy.proofs.EpochLemmas.{heard_rises}
 use Rattle.hs_copy.proofs.HeardLemmas.{deletes-append, heard_more, heard_then, ops-append}
 use Rattle.hs_copy.proofs.JudgedLemmas.{forget_judged, root_judged}
 use Rattle.hs_copy.proofs.RoundLemmas.{mine_less}
 use Rattle.hs_copy.specs.Calls.{CallFails}
 use Rattle.hs_copy.specs.Hands.{HasHands, Lessens, RootsSo, rooted, unrooted}
 use Rattle.hs_copy.specs.Heard.{AreHeard, joined, ops_of}
-use Rattle.hs_copy.specs.Rounds.{ForgetStops, Forgets, HoldsNodes, HoldsSo, IsEnd, IsForgetEnd, IsMine, KeepsLast, Matches, RoundDone, RoundStale, RoundStops, RoundsBroken, WritesAll, blocks_of, names_in, writes_of}
-use Rattle.hs_copy.specs.Writing.{ComesNext, IsBroken, IsForgetDone, IsStale, deletes_in}
+use Rattle.hs_copy.specs.Rounds.{AreForgettable, ForgetStops, Forgets, HoldsNodes, HoldsSo, IsEnd, IsForgetEnd, IsMine, IsToldWhy, KeepsLast, Matches, RoundDone, RoundStale, RoundStops, RoundsBroken, WritesAll, blocks_of, epoch_now, names_in, writes_of}
+use Rattle.hs_copy.specs.Writing.IsCopyRefusal.{Collides, KeyIsTaken, RootsAreFull, ShardIsFull}
+use Rattle.hs_copy.specs.Writing.{ComesNext, IsBroken, IsCopyRefusal, IsForgetDone, IsStale, deletes_in}
 use Rattle.hs_copy.specs.declared.fault.PartFault.{PartFault}
 use Rattle.hs_copy.specs.declared.fault.PartFault.TheVariants as part
 use Rattle.hs_copy.specs.declared.order.Placed.{Placed}
@@ -53,6 +56,12 @@ last_entry nodes front top es e h =
     at : (left right : List (ℕ × Held)) → AllZip Matches (top ∷ []) right → Last (left ++ right) top
     at left [] m = absurd m
     at left (x ∷ right) m = record { held = x.1; among = member-append_right (top.handle, x.1) left (x ∷ right) (inl (λ i. (m.0.0 i, x.1))); same = m.0.1 }
+
+pub stale_not_refused : (key : List ℕ) (r : Reply) → IsStale r → IsCopyRefusal key r → ⊥
+stale_not_refused key r s (Collides e) = subst IsStale e s
+stale_not_refused key r s (ShardIsFull e) = subst IsStale e s
+stale_not_refused key r s (KeyIsTaken e) = subst IsStale e s
+stale_not_refused key r s (RootsAreFull e) = subst IsStale e s
 
 stale_not_ok : (r : Reply) → IsStale r → r ≡ reply.Ok → ⊥
 stale_not_ok r s e = subst IsStale e s
@@ -94,14 +103,21 @@ module _ (name : List ℕ → Address) (key : List ℕ) (placed : List Placed) w
           go holds last (unrooted (inr (inl e)) hands less) = absurd (taken_not_ok reply.Ok key e refl)
           go holds last (unrooted (inr (inr e)) hands less) = absurd (full_not_ok reply.Ok mid.began.limits.roots e refl)
 
-  root_refused : (b : Began) (s t : Store) (since : ℕ) (nodes front : List Node) (top : Node) (told : Reply) → nodes ≡ front ++ top ∷ [] → HoldsNodes name b s since nodes → IsJudged b.limits s t (op.Root our_session key top.handle) told → HoldsNodes name b t since nodes
-  root_refused b s t since nodes front top told split h j =
+  root_refused : (b : Began) (s t : Store) (since : ℕ) (nodes front : List Node) (top : Node) (told : Reply) → nodes ≡ front ++ top ∷ [] → HoldsNodes name b s since nodes → IsJudged b.limits s t (op.Root our_session key top.handle) told → grants (op.Root our_session key top.handle) told ≡ false → HoldsNodes name b t since nodes × IsToldWhy key since t told
+  unfolding grants
+  root_refused b s t since nodes front top told split h j denied =
       let last : Last h.entries top = last_entry nodes front top h.entries split h.matches in
       go (root_judged b.limits s t since h.next h.entries h.hands top.handle last.held key told last.among j)
     where
-      go : {held : Held} → RootsSo b.limits s t since h.next h.entries key held told → HoldsNodes name b t since nodes
-      go (rooted told_is root kept same hands less) = record { named = h.named; limits = h.limits; next = h.next; entries = h.entries; hands = hands; matches = h.matches }
-      go (unrooted why hands less) = record { named = h.named; limits = h.limits; next = h.next; entries = h.entries; hands = hands; matches = h.matches }
+      go : {held : Held} → RootsSo b.limits s t since h.next h.entries key held told → HoldsNodes name b t since nodes × IsToldWhy key since t told
+      go (rooted told_is root kept same hands less) = let k : is_ok reply.Ok ≡ false = subst (λ z. is_ok z ≡ false) told_is denied in absurd (cc k)
+      go (unrooted why hands less) = (
+        record { named = h.named; limits = h.limits; next = h.next; entries = h.entries; hands = hands; matches = h.matches },
+        elim why [
+          | inl old ↦ inl old
+          | inr w ↦ inr (elim w [ inl e ↦ KeyIsTaken e | inr e ↦ RootsAreFull (e ∙ ap (λ l. reply.RootsFull l.roots) h.limits) ])
+        ],
+      )
 
   pub root_stops : {tells : Type 0} (old mid new : Shown tells) (nodes front : List Node) (top : Node) (a b : ℕ) (f : PartFault) → b ≤ 4 → nodes ≡ front ++ top ∷ [] → WritesAll name old mid placed nodes a b → CallFails mid new (op.Root our_session key top.handle) f → RoundStops name key old new placed nodes a b f
   root_stops {tells} old mid new nodes front top a b f few split h c = go f c
@@ -112,8 +128,8 @@ module _ (name : List ℕ → Address) (key : List ℕ) (placed : List Placed) w
       comes : ComesNext key (writes_of name placed) h.work o
       comes = (refl, refl, h.writes)
 
-      with_end : (new : Shown tells) (g : PartFault) → IsEnd key (writes_of name placed) h.work a mid new g → new.began ≡ mid.began → ((told : Reply) → g ≡ part.Refused told → new.ended ≡ None) → ((told : Reply) → g ≡ part.Refused told → HoldsSo name new nodes) → RoundStops name key old new placed nodes a b g
-      with_end new g end begun going holds = record {
+      with_end : (new : Shown tells) (g : PartFault) → IsEnd key (writes_of name placed) h.work a mid new g → new.began ≡ mid.began → ((told : Reply) → g ≡ part.Refused told → new.ended ≡ None) → ((told : Reply) → g ≡ part.Refused told → HoldsSo name new nodes × IfTold new (λ c. IsToldWhy key (epoch_now old) (store_now c new) told)) → RoundStops name key old new placed nodes a b g
+      with_end new g end begun going why = record {
         work = h.work;
         done = h.done;
         mid = mid;
@@ -126,13 +142,21 @@ module _ (name : List ℕ → Address) (key : List ℕ) (placed : List Placed) w
         began = begun ∙ h.began;
         exact = λ told e. h.deletes;
         going = going;
-        holds = holds;
+        holds = λ told e. (why told e).0;
+        cause = λ told e. (why told e).1;
       }
 
       go : (f : PartFault) → CallFails mid new o f → RoundStops name key old new placed nodes a b f
       go (part.Core core) c = with_end new (part.Core core) (o, comes, c) c.began (λ told e. absurd (no_core core told e)) (λ told e. absurd (no_core core told e))
-      go (part.Refused told) c = with_end new (part.Refused told) (o, comes, c.0, c.1) c.0.began (λ r e. c.0.going)
-          (λ r e is. ((h.holds is).0, subst (λ z. HoldsNodes name z (store_now z new) (h.holds is).0 nodes) (sym c.0.began) (root_refused mid.began (store_now mid.began mid) (store_now mid.began new) (h.holds is).0 nodes front top told split (h.holds is).1 (c.0.judged is))))
+      go (part.Refused told) c = with_end new (part.Refused told) (o, comes, c.0, c.1) c.0.began (λ r e. c.0.going) (λ r e. ((λ is. (epoch_now old, (left told c is).0)), λ is. subst (λ z. IsToldWhy key (epoch_now old) (store_now new.began new) z) (same_told told r e) (left told c is).1))
+        where
+          left : (told : Reply) → Hears mid new o told × (grants o told ≡ false) → tells → HoldsNodes name new.began (store_now new.began new) (epoch_now old) nodes × IsToldWhy key (epoch_now old) (store_now new.began new) told
+          left told c is =
+              subst (λ z. HoldsNodes name z (store_now z new) (epoch_now old) nodes × IsToldWhy key (epoch_now old) (store_now z new) told) (sym c.0.began)
+              (root_refused mid.began (store_now mid.began mid) (store_now mid.began new) (epoch_now old) nodes front top told split (h.fresh is) (c.0.judged is) c.1)
+
+          same_told : (told r : Reply) → part.Refused told ≡ part.Refused r → told ≡ r
+          same_told told r e = cc e
       go part.TooMany c = absurd c
       go part.NoMemory c = subst (λ z. RoundStops name key old z placed nodes a b part.NoMemory) (sym c) (with_end mid part.NoMemory refl refl (λ told e. absurd (no_memory told e)) (λ told e. absurd (no_memory told e)))
         where
@@ -154,19 +178,26 @@ module _ (name : List ℕ → Address) (key : List ℕ) (placed : List Placed) w
     going = h.going told refl;
     began = h.began;
     holds = h.holds told refl;
+    risen = λ is. elim (h.cause told refl is) [ inl old_one ↦ old_one.risen | inr refused ↦ absurd (stale_not_refused key told s refused) ];
   }
 
 -- ---- forgets
 
-forgot_one : (name : List ℕ → Address) (b : Began) (s t : Store) (since : ℕ) (n : Node) (rest : List Node) (told : Reply) → HoldsNodes name b s since (n ∷ rest) → IsJudged b.limits s t (op.Forget our_session n.handle) told → HoldsNodes name b t since rest
-forgot_one name b s t since n rest told h j = go h.entries h.matches h.hands
+forgot_both : (name : List ℕ → Address) (b : Began) (s t : Store) (since : ℕ) (n : Node) (rest : List Node) (told : Reply) → HoldsNodes name b s since (n ∷ rest) → IsJudged b.limits s t (op.Forget our_session n.handle) told → HoldsNodes name b t since rest × (told ≡ reply.Ok)
+forgot_both name b s t since n rest told h j = go h.entries h.matches h.hands
   where
-    go : (es : List (ℕ × Held)) → AllZip Matches (n ∷ rest) es → HasHands s since h.next es → HoldsNodes name b t since rest
+    go : (es : List (ℕ × Held)) → AllZip Matches (n ∷ rest) es → HasHands s since h.next es → HoldsNodes name b t since rest × (told ≡ reply.Ok)
     go [] m k = absurd m
     go (e ∷ es) m k =
         let j' : IsJudged b.limits s t (op.Forget our_session e.0) told = subst (λ z. IsJudged b.limits s t (op.Forget our_session z) told) m.0.0 j in
         let r = forget_judged b.limits s t since h.next (e ∷ es) k [] e es told refl j' in
-        record { named = h.named; limits = h.limits; next = h.next; entries = es; hands = r.0.hands; matches = m.1 }
+        (record { named = h.named; limits = h.limits; next = h.next; entries = es; hands = r.0.hands; matches = m.1 }, r.1)
+
+forgot_one : (name : List ℕ → Address) (b : Began) (s t : Store) (since : ℕ) (n : Node) (rest : List Node) (told : Reply) → HoldsNodes name b s since (n ∷ rest) → IsJudged b.limits s t (op.Forget our_session n.handle) told → HoldsNodes name b t since rest
+forgot_one name b s t since n rest told h j = (forgot_both name b s t since n rest told h j).0
+
+forgot_told : (name : List ℕ → Address) (b : Began) (s t : Store) (since : ℕ) (n : Node) (rest : List Node) (told : Reply) → HoldsNodes name b s since (n ∷ rest) → IsJudged b.limits s t (op.Forget our_session n.handle) told → told ≡ reply.Ok
+forgot_told name b s t since n rest told h j = (forgot_both name b s t since n rest told h j).1
 
 pub forgets_none : {tells : Type 0} (name : List ℕ → Address) (old : Shown tells) → old.ended ≡ None → Forgets name old old []
 forgets_none name old going = record { forgets = []; done = tt; heard = refl; going = going; began = refl; holds = λ rest h. h }
@@ -192,6 +223,17 @@ forget_stops name old mid new front n f h c = record { forgets = h.forgets; done
     go part.TooMany c = absurd c
     go part.NoMemory c = (c, ap (λ z. z.began) c)
 
+-- a forget of one that is held is never refused
+pub forgettable : {tells : Type 0} (name : List ℕ → Address) (old mid new : Shown tells) (front : List Node) (n : Node) (rest nodes : List Node) (f : PartFault) → nodes ≡ front ++ n ∷ rest → Forgets name old mid front → CallFails mid new (op.Forget our_session n.handle) f → AreForgettable name old nodes f
+unfolding grants
+forgettable name old mid new front n rest nodes (part.Core core) split h c = tt
+forgettable name old mid new front n rest nodes (part.Refused told) split h c = λ holds is.
+    let k = h.holds (n ∷ rest) (subst (λ z. HoldsSo name old z) split holds) is in
+    let z = subst (λ z. is_ok z ≡ false) (forgot_told name mid.began (store_now mid.began mid) (store_now mid.began new) k.0 n rest told k.1 (c.0.judged is)) c.1 in
+    cc z
+forgettable name old mid new front n rest nodes part.TooMany split h c = tt
+forgettable name old mid new front n rest nodes part.NoMemory split h c = tt
+
 -- ---- beginnings in a row
 
 joined-more : (rows : List (List (Op × Reply))) (row : List (Op × Reply)) → joined (rows ++ row ∷ []) ≡ joined rows ++ row
@@ -200,7 +242,7 @@ joined-more (r ∷ rows) row = ap (λ z. r ++ z) (joined-more rows row) ∙ sym 
 
 module _ (name : List ℕ → Address) (key : List ℕ) (placed : List Placed) where
   pub broken_none : {tells : Type 0} (old : Shown tells) (a : ℕ) → old.ended ≡ None → RoundsBroken name key old old placed 0 a a
-  broken_none old a going = record { rounds = []; counted = refl; broken = tt; heard = refl; deletes = omega arith; going = going; began = refl; holds = λ h. h }
+  broken_none old a going = record { rounds = []; counted = refl; broken = tt; heard = refl; deletes = omega arith; going = going; began = refl; holds = λ h. h; risen = λ is. omega arith }
 
   no_deletes : (hs : List (Op × Reply)) → AllByRecursion IsForgetDone hs → deletes_in (ops_of hs) ≡ 0
   no_deletes [] h = refl
@@ -216,7 +258,7 @@ module _ (name : List ℕ → Address) (key : List ℕ) (placed : List Placed) w
   no_deletes ((op.Delete, told) ∷ hs) h = absurd h.0
   no_deletes ((op.Stat, told) ∷ hs) h = absurd h.0
 
-  none_next : (work : List (Op × Reply)) (o : Op) → ComesNext key (writes_of name placed) work o → deletes_in (o ∷ []) ≡ 0
+  pub none_next : (work : List (Op × Reply)) (o : Op) → ComesNext key (writes_of name placed) work o → deletes_in (o ∷ []) ≡ 0
   none_next work (op.Write session payload handles address) h = refl
   none_next work (op.Root session k handle) h = refl
   none_next work (op.Forget session handle) h = absurd h
@@ -248,6 +290,11 @@ module _ (name : List ℕ → Address) (key : List ℕ) (placed : List Placed) w
         going = f.going;
         began = f.began ∙ (s.began ∙ h.began);
         holds = λ k. f.holds [] (subst (λ z. HoldsSo name stale z) (sym (append-nil nodes)) s.holds);
+        risen = λ is.
+            let once : epoch_now old + n ≤ epoch_now mid = h.risen is in
+            let more : epoch_now mid + 1 ≤ epoch_now stale = s.risen is in
+            let on : epoch_now stale ≤ epoch_now new = (heard_rises stale new f.forgets is f.heard (s.holds is).1.hands.sane).low in
+            omega (arith, once, more, on);
       }
     where
       add-zero : (x y : ℕ) → x ≡ 0 → y ≡ 0 → x + y ≡ 0

@@ -4,7 +4,7 @@ use Rattle.std.proofs.lemmas.List.{length-map, map-append}
 use Rattle.std.specs.List.{AllByRecursion}
 use Rattle.hs_asking.proofs.HandLemmas.{all_append}
 use Rattle.hs_asking.specs.Judged.{IsJudged}
-use Rattle.hs_asking.specs.Shown.{Began, Shown, store_now}
+use Rattle.hs_asking.specs.Shown.{Began, IfTold, Shown, store_now}
 use Rattle.hs_asking.specs.Telling.{grants, is_written}
 use Rattle.hs_copy.proofs.BlockLemmas.{addresses-at, blocks-more, different_last, names-more, next_block, rest_of, writes-rest}
 use Rattle.hs_copy.proofs.HandsLemmas.{IsKnown}
@@ -15,9 +15,10 @@ use Rattle.hs_copy.specs.Calls.{CallFails}
 use Rattle.hs_copy.specs.Hands.{Lessens, LessensBut, WritesSo, unwritten, wrote}
 use Rattle.hs_copy.specs.Heard.{ops_of}
 use Rattle.hs_copy.specs.Listing.{AreDifferent, name_of}
-use Rattle.hs_copy.specs.Rounds.{AreBelowOf, DeleteStops, DeletesOrNot, HoldsNodes, HoldsSo, IsEnd, IsMine, Matches, PlacedFails, RoundStops, WritesAll, WritesPlaced, address_at, block_above, blocks_of, names_in, write_above, writes_of}
+use Rattle.hs_copy.specs.Rounds.{AreBelowOf, DeleteStops, DeletesOrNot, HoldsNodes, HoldsSo, IsEnd, IsToldWhy, IsMine, Matches, PlacedFails, RoundStops, WritesAll, WritesPlaced, address_at, block_above, blocks_of, epoch_now, names_in, write_above, writes_of}
 use Rattle.hs_copy.specs.Rounds.DeletesOrNot.{none, one}
 use Rattle.hs_copy.specs.Rounds.PlacedFails.{failed, quiet}
+use Rattle.hs_copy.specs.Writing.IsCopyRefusal.{Collides, ShardIsFull}
 use Rattle.hs_copy.specs.Writing.{ComesNext, IsStale, IsWorkDone, deletes_in}
 use Rattle.hs_copy.specs.declared.fault.PartFault.{PartFault}
 use Rattle.hs_copy.specs.declared.fault.PartFault.TheVariants as part
@@ -85,14 +86,13 @@ module _ (name : List ℕ → Address) where
       λ i. record { pointers = e i; bytes = q.bytes }
 
   -- what the session holds behind a write, and that it is mine
-  record Written (b : Began) (t : Store) (nodes : List Node) (front : List Placed) (q : Placed) (made : Node) : Type 0 where
-    since : ℕ
+  record Written (b : Began) (t : Store) (since : ℕ) (nodes : List Node) (front : List Placed) (q : Placed) (made : Node) : Type 0 where
     holds : HoldsNodes name b t since (nodes ++ made ∷ [])
     mine : AreDifferent (names_in name (front ++ q ∷ [])) → AllByRecursion (IsMine name t) (blocks_of name [] (front ++ q ∷ []))
 
   written_told : (b : Began) (s t : Store) (since : ℕ) (nodes : List Node) (front : List Placed) (q : Placed) (below : List Node) (made : Node) (told : Reply) → HoldsNodes name b s since nodes → length nodes ≤ 4000
       → (AreDifferent (names_in name front) → AllByRecursion (IsMine name s) (blocks_of name [] front)) → map (λ (n : Node). n.address) nodes ≡ names_in name front → AreBelowOf nodes q below
-      → IsJudged b.limits s t (write_above name our_session below q.bytes) told → GivesWritten told made.handle → made.address ≡ name (spell (block_above below q.bytes)) → Written b t nodes front q made
+      → IsJudged b.limits s t (write_above name our_session below q.bytes) told → GivesWritten told made.handle → made.address ≡ name (spell (block_above below q.bytes)) → Written b t since nodes front q made
   written_told b s t since nodes front q below made told h few mine names are j gives named =
       go (subst (λ z. WritesSo b.limits s t since h.next h.entries a z told) block_same (write_judged b.limits s t since h.next h.entries h.hands q.bytes handles a told are.short short_handles room known j))
     where
@@ -126,9 +126,8 @@ module _ (name : List ℕ → Address) where
       next_is : block ≡ next_block name front q
       next_is = block_is nodes front q below names are
 
-      go : WritesSo b.limits s t since h.next h.entries a block told → Written b t nodes front q made
+      go : WritesSo b.limits s t since h.next h.entries a block told → Written b t since nodes front q made
       go (wrote epoch told_is after only less) = record {
-        since = since;
         holds = record {
           named = h.named;
           limits = h.limits;
@@ -158,10 +157,10 @@ module _ (name : List ℕ → Address) where
       let no_deletes : deletes_in (o ∷ []) ≡ 0 = refl in
       let counted : deletes_in (ops_of (h.work ++ (o, told) ∷ [])) ≡ deletes_in (ops_of h.work) + 0 = ap (λ z. deletes_in z) (ops-append h.work ((o, told) ∷ [])) ∙ deletes-append (ops_of h.work) (o ∷ []) in
       let deletes : deletes_in (ops_of h.work) + a ≡ b = h.deletes in
-      let after : tells → Written new.began (store_now new.began new) nodes front q made = λ is.
+      let after : tells → Written new.began (store_now new.began new) (epoch_now old) nodes front q made = λ is.
       let begun : new.began ≡ mid.began = hears.began in
-      subst (λ z. Written z (store_now z new) nodes front q made) (sym begun)
-      (written_told mid.began (store_now mid.began mid) (store_now mid.began new) (h.holds is).0 nodes front q w.below made told (h.holds is).1 few (h.mine is) h.names w.are (hears.judged is) w.node.answered.gives w.node.named) in
+      subst (λ z. Written z (store_now z new) (epoch_now old) nodes front q made) (sym begun)
+      (written_told mid.began (store_now mid.began mid) (store_now mid.began new) (epoch_now old) nodes front q w.below made told (h.fresh is) few (h.mine is) h.names w.are (hears.judged is) w.node.answered.gives w.node.named) in
       record {
         work = h.work ++ (o, told) ∷ [];
         done = all_append IsWorkDone h.work ((o, told) ∷ []) h.done ((refl, made.handle, w.node.answered.gives), tt);
@@ -171,7 +170,8 @@ module _ (name : List ℕ → Address) where
         deletes = omega (arith, counted, deletes);
         going = hears.going;
         began = hears.began ∙ h.began;
-        holds = λ is. ((after is).since, (after is).holds);
+        holds = λ is. (epoch_now old, (after is).holds);
+        fresh = λ is. (after is).holds;
         mine = λ is. (after is).mine;
       }
 
@@ -200,6 +200,7 @@ module _ (name : List ℕ → Address) where
         going = hears.going;
         began = hears.began ∙ h.began;
         holds = λ is. ((h.holds is).0, subst (λ z. HoldsNodes name z (store_now z new) (h.holds is).0 nodes) (sym begun) (held_after mid.began (store_now mid.began mid) (store_now mid.began new) (h.holds is).0 nodes told (h.holds is).1 (hears.judged is)).0);
+        fresh = λ is. subst (λ z. HoldsNodes name z (store_now z new) (epoch_now old) nodes) (sym begun) (held_after mid.began (store_now mid.began mid) (store_now mid.began new) (epoch_now old) nodes told (h.fresh is) (hears.judged is)).0;
         mine = λ is d. subst (λ z. AllByRecursion (IsMine name (store_now z new)) (blocks_of name [] placed)) (sym begun) (mine_less name (store_now mid.began mid) (store_now mid.began new) (held_after mid.began (store_now mid.began mid) (store_now mid.began new) (h.holds is).0 nodes told (h.holds is).1 (hears.judged is)).1 (blocks_of name [] placed) (h.mine is d));
       }
 
@@ -228,13 +229,14 @@ module _ (name : List ℕ → Address) where
         exact = λ told e. never told e;
         going = λ told e. never told e;
         holds = λ told e. never told e;
+        cause = λ told e. never told e;
       }
 
   -- a refused write leaves what is held
   refused_holds : (b : Began) (s t : Store) (since : ℕ) (nodes : List Node) (q : Placed) (below : List Node) (told : Reply) → HoldsNodes name b s since nodes → length nodes ≤ 4000 → AreBelowOf nodes q below
-      → IsJudged b.limits s t (write_above name our_session below q.bytes) told → grants (write_above name our_session below q.bytes) told ≡ false → HoldsNodes name b t since nodes
+      → IsJudged b.limits s t (write_above name our_session below q.bytes) told → (key : List ℕ) → grants (write_above name our_session below q.bytes) told ≡ false → HoldsNodes name b t since nodes × IsToldWhy key since t told
   unfolding grants
-  refused_holds b s t since nodes q below told h few are j denied =
+  refused_holds b s t since nodes q below told h few are j key denied =
       go (write_judged b.limits s t since h.next h.entries h.hands q.bytes (map (λ (n : Node). n.handle) below) (name (spell (block_above below q.bytes))) told are.short
       (subst (λ z. z ≤ MOST_POINTERS) (sym (length-map below (λ (n : Node). n.handle))) are.few) room (known_all h.next h.entries below (entries_below nodes h.entries h.matches q.below below are.found)) j)
     where
@@ -250,10 +252,16 @@ module _ (name : List ℕ → Address) where
       dup_granted : (r : Reply) (n e : ℕ) → r ≡ reply.Dup n e → is_written r ≡ false → ⊥
       dup_granted r n e f k = let l : is_written (reply.Dup n e) ≡ false = subst (λ z. is_written z ≡ false) f k in cc l
 
-      go : WritesSo b.limits s t since h.next h.entries (name (spell (block_above below q.bytes))) (written s our_session q.bytes (map (λ (n : Node). n.handle) below)) told → HoldsNodes name b t since nodes
+      go : WritesSo b.limits s t since h.next h.entries (name (spell (block_above below q.bytes))) (written s our_session q.bytes (map (λ (n : Node). n.handle) below)) told → HoldsNodes name b t since nodes × IsToldWhy key since t told
       go (wrote epoch (inl e) after only less) = absurd (new_granted told h.next epoch e denied)
       go (wrote epoch (inr e) after only less) = absurd (dup_granted told h.next epoch e denied)
-      go (unwritten why after less) = record { named = h.named; limits = h.limits; next = h.next; entries = h.entries; hands = after; matches = h.matches }
+      go (unwritten why after less) = (
+        record { named = h.named; limits = h.limits; next = h.next; entries = h.entries; hands = after; matches = h.matches },
+        elim why [
+          | inl old ↦ inl old
+          | inr w ↦ inr (elim w [ inl e ↦ Collides e | inr e ↦ ShardIsFull (e ∙ ap (λ l. reply.ShardFull l.blocks) h.limits) ])
+        ],
+      )
 
   -- a write that fails stops the beginning
   pub stop_write : {tells : Type 0} (key : List ℕ) (old mid new : Shown tells) (front rest placed : List Placed) (nodes : List Node) (a b : ℕ) (q : Placed) (f : PartFault) → placed ≡ front ++ q ∷ rest → b ≤ 4 → length nodes ≤ 4000 → WritesAll name old mid front nodes a b → PlacedFails name mid new nodes q f → RoundStops name key old new placed nodes a b f
@@ -282,8 +290,8 @@ module _ (name : List ℕ → Address) where
       deletes : deletes_in (ops_of h.work) + a ≤ 4
       deletes = let d : deletes_in (ops_of h.work) + a ≡ b = h.deletes in omega (arith, d, few)
 
-      with_end : (new : Shown tells) (g : PartFault) → IsEnd key (writes_of name placed) h.work a mid new g → new.began ≡ mid.began → ((told : Reply) → g ≡ part.Refused told → new.ended ≡ None) → ((told : Reply) → g ≡ part.Refused told → HoldsSo name new nodes) → RoundStops name key old new placed nodes a b g
-      with_end new g end begun going holds = record {
+      with_end : (new : Shown tells) (g : PartFault) → IsEnd key (writes_of name placed) h.work a mid new g → new.began ≡ mid.began → ((told : Reply) → g ≡ part.Refused told → new.ended ≡ None) → ((told : Reply) → g ≡ part.Refused told → HoldsSo name new nodes × IfTold new (λ c. IsToldWhy key (epoch_now old) (store_now c new) told)) → RoundStops name key old new placed nodes a b g
+      with_end new g end begun going why = record {
         work = h.work;
         done = h.done;
         mid = mid;
@@ -296,7 +304,8 @@ module _ (name : List ℕ → Address) where
         began = begun ∙ h.began;
         exact = λ told e. h.deletes;
         going = going;
-        holds = holds;
+        holds = λ told e. (why told e).0;
+        cause = λ told e. (why told e).1;
       }
 
       go : (f : PartFault) → CallFails mid new o f → RoundStops name key old new placed nodes a b f
@@ -304,8 +313,15 @@ module _ (name : List ℕ → Address) where
         where
           no_core : (core : CoreFault) (told : Reply) → part.Core core ≡ part.Refused told → ⊥
           no_core core told e = cc e
-      go (part.Refused told) c = with_end new (part.Refused told) (o, comes, c.0, c.1) c.0.began (λ r e. c.0.going)
-          (λ r e is. ((h.holds is).0, subst (λ z. HoldsNodes name z (store_now z new) (h.holds is).0 nodes) (sym c.0.began) (refused_holds mid.began (store_now mid.began mid) (store_now mid.began new) (h.holds is).0 nodes q below told (h.holds is).1 most are (c.0.judged is) c.1)))
+      go (part.Refused told) c = with_end new (part.Refused told) (o, comes, c.0, c.1) c.0.began (λ r e. c.0.going) (λ r e. ((λ is. (epoch_now old, (left told c is).0)), λ is. subst (λ z. IsToldWhy key (epoch_now old) (store_now new.began new) z) (same_told told r e) (left told c is).1))
+        where
+          left : (told : Reply) → Hears mid new o told × (grants o told ≡ false) → tells → HoldsNodes name new.began (store_now new.began new) (epoch_now old) nodes × IsToldWhy key (epoch_now old) (store_now new.began new) told
+          left told c is =
+              subst (λ z. HoldsNodes name z (store_now z new) (epoch_now old) nodes × IsToldWhy key (epoch_now old) (store_now z new) told) (sym c.0.began)
+              (refused_holds mid.began (store_now mid.began mid) (store_now mid.began new) (epoch_now old) nodes q below told (h.fresh is) most are (c.0.judged is) key c.1)
+
+          same_told : (told r : Reply) → part.Refused told ≡ part.Refused r → told ≡ r
+          same_told told r e = cc e
       go part.TooMany c = absurd c
       go part.NoMemory c = subst (λ z. RoundStops name key old z placed nodes a b part.NoMemory) (sym c) (stop_quiet key old mid front (q ∷ rest) placed nodes nodes a b b split few h)
 
@@ -334,6 +350,7 @@ module _ (name : List ℕ → Address) where
         exact = λ told e. absurd (no_core core told e);
         going = λ told e. absurd (no_core core told e);
         holds = λ told e. absurd (no_core core told e);
+        cause = λ told e. absurd (no_core core told e);
       }
       go (part.Refused told) d = absurd d.0
       go part.TooMany d = absurd d.0

@@ -1,21 +1,23 @@
 -- What loops and exits ask for.
 use Rattle.std.proofs.Common.{◌≡◌, ◌∙◌, inl, inr, ℕ, ◌+◌, ◌<◌, ◌≤◌, Bool, zero, suc, List, [], ◌∷◌, ◌++◌, Some, None, Result, Ok, Err, IfErr, IfOk, OnOk, refl, sym, ap, subst, arith, append_assoc, length, map, take, drop, get_or, slice_get, slice_index, slice_set}
+use Rattle.std.specs.List.{AllZip}
 use Rattle.std.proofs.lemmas.Grind.{common_steps}
 use Rattle.std.proofs.lemmas.List.{length-append, map-append}
 use Rattle.hs_asking.proofs.SaneLemmas.{answers_sane}
 use Rattle.hs_asking.specs.Asked.{IsNamed}
 use Rattle.hs_asking.specs.Judged.{IsJudged}
 use Rattle.hs_asking.specs.Lawful.{AreAnswersOf}
-use Rattle.hs_asking.specs.Shown.{IfTold, Shown, store_now}
+use Rattle.hs_asking.specs.Shown.{Began, IfTold, Shown, store_now}
 use Rattle.hs_copy.proofs.JudgedLemmas.{open_judged}
 use Rattle.hs_copy.proofs.NodeLemmas.{is_named, op_is}
 use Rattle.hs_copy.proofs.PlaceLemmas.{entered_not, placed_below, places_one}
-use Rattle.hs_copy.proofs.RootLemmas.{forgets_more, root_done, root_stops, round_stale}
+use Rattle.hs_copy.proofs.RootLemmas.{forgets_more, forgettable, root_done, root_stops, round_stale}
 use Rattle.hs_copy.proofs.RoundLemmas.{stop_write, writes_next}
 use Rattle.hs_copy.specs.Calls.{CallFails, IsCore}
 use Rattle.hs_copy.specs.Listing.{HasListed}
 use Rattle.hs_copy.specs.Placing.{AreBelow, IsOrdered, Places}
-use Rattle.hs_copy.specs.Rounds.{AreBelowOf, DeleteStops, Forgets, HoldsNodes, HoldsSo, IsLast, IsNamedBy, IsTriedAs, PlacedFails, RoundDone, RoundIs, RoundStops, WritesAll, WritesPlaced, write_above}
+use Rattle.hs_copy.specs.Hands.{HasHands}
+use Rattle.hs_copy.specs.Rounds.{AreBelowOf, AreForgettable, DeleteStops, Forgets, HoldsNodes, HoldsSo, IsLast, IsNamedBy, IsNotStale, IsTriedAs, Matches, PlacedFails, RoundDone, RoundIs, RoundStops, WritesAll, WritesPlaced, write_above}
 use Rattle.hs_copy.specs.Rounds.PlacedFails.{failed}
 use Rattle.hs_copy.specs.declared.fault.PartFault.{PartFault}
 use Rattle.hs_copy.specs.declared.fault.PartFault.TheVariants as part
@@ -27,7 +29,8 @@ use Rattle.hs_copy.specs.declared.write.Node.{Node}
 use Rattle.hs_limits.specs.Block.{spell}
 use Rattle.hs_limits.specs.declared.address.Address.{Address}
 use Rattle.hs_limits.specs.declared.spelling.TheConstants.{MOST_BYTES, MOST_POINTERS}
-use Rattle.hs_model.specs.Store.{Session}
+use Rattle.hs_limits.specs.declared.address.Held.{Held}
+use Rattle.hs_model.specs.Store.{Session, Store}
 use Rattle.hs_model.specs.declared.op.Op.TheVariants as op
 use Rattle.hs_model.specs.declared.reply.Reply.TheVariants as reply
 use Rattle.hs_tree.specs.Calls.{Hears}
@@ -87,6 +90,14 @@ places_entered block number place marks after placed placed' pointers bytes belo
 
 -- ---- writing
 
+-- who holds nothing holds it since now
+fresh_now : (name : List ℕ → Address) (b : Began) (s : Store) (since : ℕ) → HoldsNodes name b s since [] → HoldsNodes name b s (slice_index s.epochs 0) []
+fresh_now name b s since h = go h.entries h.matches h.hands
+  where
+    go : (es : List (ℕ × Held)) → AllZip Matches [] es → HasHands s since h.next es → HoldsNodes name b s (slice_index s.epochs 0) []
+    go [] m k = record { named = h.named; limits = h.limits; next = h.next; entries = []; hands = record { sane = k.sane; opened = k.opened; ascend = k.ascend; given = tt; now = omega arith }; matches = tt }
+    go (e ∷ es) m k = absurd m
+
 pub begun_all : {tells : Type 0} (name : List ℕ → Address) (old : Shown tells) (nodes : List Node) (a : ℕ) → old.ended ≡ None → nodes ≡ [] → HoldsSo name old [] → WritesAll name old old [] nodes a a
 begun_all name old nodes a going empty holds = subst (λ z. WritesAll name old old [] z a a) (sym empty) (record {
   work = [];
@@ -98,6 +109,7 @@ begun_all name old nodes a going empty holds = subst (λ z. WritesAll name old o
   going = going;
   began = refl;
   holds = holds;
+  fresh = λ is. fresh_now name old.began (store_now old.began old) (holds is).0 (holds is).1;
   mine = λ is d. tt;
 })
 
@@ -131,7 +143,7 @@ forgets_next name old mid new session nodes i d ours within h k =
 
 -- ---- an open
 
-no_sessions : (xs : List (List ℕ × Session)) → xs ≡ [] → length xs ≡ 0
+pub no_sessions : (xs : List (List ℕ × Session)) → xs ≡ [] → length xs ≡ 0
 no_sessions xs e = ap (λ z. length z) e
 
 pub open_holds : {tells : Type 0} (name : List ℕ → Address) (old new : Shown tells) (session : List ℕ) → session ≡ our_session → IfTold old (λ b. IsIdle name b old) → IfTold old (λ b. AreAnswersOf b old) → Hears old new (op.Open session) reply.Ok → HoldsSo name new []
@@ -151,7 +163,7 @@ stop_written name key old mid new placed nodes seen a b i d f within is most cou
 pub tried_ok : {tells : Type 0} {T : Type 0} (name : List ℕ → Address) (key : List ℕ) (placed : List Placed) (old new : Shown tells) (nodes : List Node) (a b : ℕ) (r : Result T PartFault) (t : Result Bool PartFault) → IsTriedAs r t → OnOk r (RoundDone name key old new placed a b) → IfErr r (λ f. RoundStops name key old new placed nodes a b f) → IfOk t (λ whole. RoundIs name key old new placed nodes a b whole)
 tried_ok name key placed old new nodes a b (Ok x) t e done stops = subst (λ z. IfOk z (λ whole. RoundIs name key old new placed nodes a b whole)) (sym e) done
 tried_ok name key placed old new nodes a b (Err (part.Refused told)) t (inl e) done stops = subst (λ z. IfOk z (λ whole. RoundIs name key old new placed nodes a b whole)) (sym e.0) (round_stale name key placed old new nodes a b told stops e.1)
-tried_ok name key placed old new nodes a b (Err (part.Refused told)) t (inr e) done stops = subst (λ z. IfOk z (λ whole. RoundIs name key old new placed nodes a b whole)) (sym e) tt
+tried_ok name key placed old new nodes a b (Err (part.Refused told)) t (inr e) done stops = subst (λ z. IfOk z (λ whole. RoundIs name key old new placed nodes a b whole)) (sym e.0) tt
 tried_ok name key placed old new nodes a b (Err (part.Core core)) t e done stops = subst (λ z. IfOk z (λ whole. RoundIs name key old new placed nodes a b whole)) (sym e) tt
 tried_ok name key placed old new nodes a b (Err part.TooMany) t e done stops = subst (λ z. IfOk z (λ whole. RoundIs name key old new placed nodes a b whole)) (sym e) tt
 tried_ok name key placed old new nodes a b (Err part.NoMemory) t e done stops = subst (λ z. IfOk z (λ whole. RoundIs name key old new placed nodes a b whole)) (sym e) tt
@@ -159,10 +171,22 @@ tried_ok name key placed old new nodes a b (Err part.NoMemory) t e done stops = 
 pub tried_err : {T : Type 0} (P : PartFault → Type 0) (r : Result T PartFault) (t : Result Bool PartFault) → IsTriedAs r t → IfErr r P → IfErr t P
 tried_err P (Ok x) t e h = subst (λ z. IfErr z P) (sym e) tt
 tried_err P (Err (part.Refused told)) t (inl e) h = subst (λ z. IfErr z P) (sym e.0) tt
-tried_err P (Err (part.Refused told)) t (inr e) h = subst (λ z. IfErr z P) (sym e) h
+tried_err P (Err (part.Refused told)) t (inr e) h = subst (λ z. IfErr z P) (sym e.0) h
 tried_err P (Err (part.Core core)) t e h = subst (λ z. IfErr z P) (sym e) h
 tried_err P (Err part.TooMany) t e h = subst (λ z. IfErr z P) (sym e) h
 tried_err P (Err part.NoMemory) t e h = subst (λ z. IfErr z P) (sym e) h
+
+pub tried_caught : {T : Type 0} (r : Result T PartFault) (t : Result Bool PartFault) → IsTriedAs r t → IfErr t IsNotStale
+tried_caught (Ok x) t e = subst (λ z. IfErr z IsNotStale) (sym e) tt
+tried_caught (Err (part.Refused told)) t (inl e) = subst (λ z. IfErr z IsNotStale) (sym e.0) tt
+tried_caught (Err (part.Refused told)) t (inr e) = subst (λ z. IfErr z IsNotStale) (sym e.0) e.1
+tried_caught (Err (part.Core core)) t e = subst (λ z. IfErr z IsNotStale) (sym e) tt
+tried_caught (Err part.TooMany) t e = subst (λ z. IfErr z IsNotStale) (sym e) tt
+tried_caught (Err part.NoMemory) t e = subst (λ z. IfErr z IsNotStale) (sym e) tt
+
+pub forget_of : {tells : Type 0} (name : List ℕ → Address) (old mid new : Shown tells) (session : List ℕ) (nodes : List Node) (i : ℕ) (d : Node) (f : PartFault) → session ≡ our_session → i < length nodes → Forgets name old mid (take i nodes) → CallFails mid new (op.Forget session (get_or nodes i d).handle) f → AreForgettable name old nodes f
+forget_of name old mid new session nodes i d f ours within h c =
+    forgettable name old mid new (take i nodes) (get_or nodes i d) (drop (i + 1) nodes) nodes f (split_with nodes i d within) h (subst (λ z. CallFails mid new (op.Forget z (get_or nodes i d).handle) f) ours c)
 
 -- ---- what was listed, in order
 

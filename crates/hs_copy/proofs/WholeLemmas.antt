@@ -5,11 +5,12 @@ use Rattle.std.proofs.lemmas.List.{map-append}
 use Rattle.std.proofs.lemmas.Map.Steps.{length-le_from_distinct_below}
 use Rattle.std.proofs.lemmas.Option.{get_or_from_slice_get, slice_get_within}
 use Rattle.std.specs.List.{AllByRecursion, IsDistinct, list_any}
+use Rattle.hs_asking.specs.Lawful.{StandNamed}
 use Rattle.hs_copy.proofs.BlockLemmas.{head_or, some_is, tail_of}
 use Rattle.hs_copy.specs.Listing.{AreAllOf, AreDifferent, name_of}
 use Rattle.hs_copy.specs.Placing.{ArePlaced, IsOrdered, numbers_of}
 use Rattle.hs_copy.specs.Rounds.{address_at, block_in, blocks_of}
-use Rattle.hs_copy.specs.Whole.{HasListedAt, IsWhole, StandNamed}
+use Rattle.hs_copy.specs.Whole.{HasListedAt, IsWhole}
 use Rattle.hs_copy.specs.declared.list.Listed.{Listed}
 use Rattle.hs_copy.specs.declared.order.Placed.{Placed}
 use Rattle.hs_laws.specs.Written.{IsBlockAt}

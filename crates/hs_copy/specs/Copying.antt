@@ -4,8 +4,9 @@ use Rattle.std.specs.Prelude.{ℕ, ◌≡◌, ◌≤◌, ◌⊎◌, List, [], �
 use Rattle.hs_asking.specs.Shown.{IfTold, Shown, store_now}
 use Rattle.hs_asking.specs.Telling.{grants}
 use Rattle.hs_copy.specs.Heard.{joined, ops_of}
-use Rattle.hs_copy.specs.Listing.{AreDifferent, HasListed, name_of, reads_in}
-use Rattle.hs_copy.specs.Writing.{AreChildrenFirst, ComesNext, HasWritten, IsBroken, IsForget, IsWorkDone, deletes_in}
+use Rattle.hs_copy.specs.Copied.{IsCopied}
+use Rattle.hs_copy.specs.Listing.{AreAllOf, AreDifferent, HasListed, IsUnkept, KeepsMore, name_of, reads_in}
+use Rattle.hs_copy.specs.Writing.{AreChildrenFirst, ComesNext, HasWritten, IsBroken, IsCopyRefusal, IsForget, IsWorkDone, deletes_in}
 use Rattle.hs_copy.specs.declared.fault.CopyFault.{CopyFault}
 use Rattle.hs_copy.specs.declared.fault.CopyFault.TheVariants as fault
 use Rattle.hs_desk.specs.declared.fault.CoreFault.{CoreFault}
@@ -31,7 +32,8 @@ pub record AreThere (name : List ℕ → Address) (s : Store) (key : List ℕ) (
   pub stand : (a : Address) → IsReached s (root.address ∷ []) a → (block : Block) × Contains blocks block × (a ≡ name_of name block) × IsBlockAt s a block
 
 -- some blocks, at most 4,000, each behind those that it points to, were read in the first store and written into the second;
--- where the second is told, and no two of them have one name, its key keeps the last of them there with all that it reaches
+-- where the first is told, they are all that its key reaches, each once; where the second is told, and no two of them have one name,
+-- its key keeps the last of them there with all that it reaches; where both are told the key is copied from the first, as it was and as it is
 pub record HasCopied {P Q : Type 0} (name : List ℕ → Address) (key : List ℕ) (s t : Shown P) (u v : Shown Q) (n : ℕ) : Type 0 where
   pub blocks : List Block
   pub counted : n ≡ length blocks
@@ -39,7 +41,10 @@ pub record HasCopied {P Q : Type 0} (name : List ℕ → Address) (key : List �
   pub children_first : AreChildrenFirst name [] blocks
   pub listed : HasListed key s t n
   pub written : HasWritten name key u v blocks
+  pub all : IfTold s (λ b. AreAllOf name (store_now b s) key blocks)
   pub there : IfTold v (λ c. AreDifferent (map (name_of name) blocks) → AreThere name (store_now c v) key blocks)
+  pub copied : IfTold s (λ b. IfTold v (λ c. IsCopied (store_now b s) (store_now c v) key))
+  pub still : IfTold s (λ b. IfTold v (λ c. IsCopied (store_now b t) (store_now c v) key))
 
 -- ---- how it fails
 
@@ -87,15 +92,17 @@ IsPartOf key all ops = (ops ≡ []) ⊎ IsPart key all ops
 abbrev pub IsRefusal : {tells : Type 0} → Shown tells → Shown tells → Reply → Type 0
 IsRefusal start now told = (l : HasAskedLast start) × Hears l.before now l.last told × (grants l.last told ≡ false)
 
--- a fault is what the last operation came to, of the store of which it was asked; nothing is asked of the second before the first has been listed
-abbrev pub IsOfLast : {P Q : Type 0} → Shown P → Shown P → Shown Q → Shown Q → CopyFault → Type 0
-IsOfLast s t u v (fault.First core) = (l : HasAskedLast s) × Ends l.before t l.last core × (v ≡ u)
-IsOfLast s t u v (fault.Second core) = (l : HasAskedLast u) × Ends l.before v l.last core
-IsOfLast s t u v (fault.Refused told) = (IsRefusal s t told × (v ≡ u)) ⊎ IsRefusal u v told
-IsOfLast s t u v (fault.CopyFull blocks) = (blocks ≡ 4000) × (v ≡ u)
-IsOfLast s t u v fault.NoMemory = Unit {0}
+-- a fault is what the last operation came to, of the store of which it was asked; nothing is asked of the second before the first has been listed;
+-- where the first is told, its refusal is that the key keeps nothing, and there are too many blocks only where it keeps what reaches more than 4,000; where the second is told, its refusal is of a block or of the root
+abbrev pub IsOfLast : {P Q : Type 0} → List ℕ → Shown P → Shown P → Shown Q → Shown Q → CopyFault → Type 0
+IsOfLast key s t u v (fault.First core) = (l : HasAskedLast s) × Ends l.before t l.last core × (v ≡ u)
+IsOfLast key s t u v (fault.Second core) = (l : HasAskedLast u) × Ends l.before v l.last core
+IsOfLast key s t u v (fault.Refused told) = (IsRefusal s t told × (v ≡ u) × IfTold s (λ b. IsUnkept (store_now b s) key told)) ⊎ IsRefusal u v told × IfTold u (λ c. IsCopyRefusal key told)
+IsOfLast key s t u v (fault.CopyFull blocks) = (blocks ≡ 4000) × (v ≡ u) × IfTold s (λ b. KeepsMore (store_now b s) key 4000)
+IsOfLast key s t u v fault.NoMemory = Unit {0}
 
--- a copy has stopped with a fault: what was asked by then is a front of what a whole one asks for
+-- a copy has stopped with a fault: what was asked by then is a front of what a whole one asks for; where anything was asked of the second store,
+-- and the first is told, these blocks are all that its key reaches
 pub record IsStopped {P Q : Type 0} (name : List ℕ → Address) (key : List ℕ) (s t : Shown P) (u v : Shown Q) (f : CopyFault) : Type 0 where
   pub reads : List Op
   pub read : t.asked ≡ s.asked ++ reads
@@ -108,6 +115,8 @@ pub record IsStopped {P Q : Type 0} (name : List ℕ → Address) (key : List �
   pub ops : List Op
   pub asked : v.asked ≡ u.asked ++ ops
   pub part : IsPartOf key (as_writes name blocks) ops
+  pub most : length blocks ≤ 4000
+  pub all : (ops ≡ [] → ⊥) → IfTold s (λ b. AreAllOf name (store_now b s) key blocks)
   pub second_began : v.began ≡ u.began
   pub second_ended : SecondEnds v.ended f
-  pub last : IsOfLast s t u v f
+  pub last : IsOfLast key s t u v f

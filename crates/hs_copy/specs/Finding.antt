@@ -4,10 +4,11 @@ use Rattle.std.specs.Prelude.{ℕ, ◌≡◌, ◌≤◌, List, ◌++◌, None, O
 use Rattle.hs_asking.specs.Seats.{IsSane}
 use Rattle.hs_asking.specs.Shown.{IfTold, Shown, store_now}
 use Rattle.hs_asking.specs.Telling.{grants}
-use Rattle.hs_copy.specs.Listing.{KeepsItsOwn, reads_in}
+use Rattle.hs_copy.specs.Listing.{IsUnkept, KeepsItsOwn, KeepsMore, reads_in}
 use Rattle.hs_copy.specs.declared.fault.PartFault.{PartFault}
 use Rattle.hs_copy.specs.declared.fault.PartFault.TheVariants as part
 use Rattle.hs_desk.specs.declared.fault.CoreFault.{CoreFault}
+use Rattle.hs_model.specs.Store.{Store}
 use Rattle.hs_model.specs.declared.op.Op.{Op}
 use Rattle.hs_tree.specs.Calls.{Ends, HasAskedLast, Hears}
 use Rattle.hs_tree.specs.Fetching.{IsFetching, IsReading}
@@ -52,6 +53,13 @@ pub record ReadsStop {tells : Type 0} (old new : Shown tells) (most : ℕ) (f : 
   pub began : new.began ≡ old.began
   pub ended : EndsSo new.ended f
   pub last : IsToldLast old new f
+
+-- where the store is told, a refusal is that the key keeps nothing, and too many are found only where it keeps what reaches more than 4,000 addresses
+abbrev pub IsRootCause : Store → List ℕ → PartFault → Type 0
+IsRootCause s key (part.Core core) = Unit {0}
+IsRootCause s key (part.Refused told) = IsUnkept s key told
+IsRootCause s key part.TooMany = KeepsMore s key 4000
+IsRootCause s key part.NoMemory = Unit {0}
 
 -- so has a listing
 pub record ListingStops {tells : Type 0} (key : List ℕ) (old new : Shown tells) (f : PartFault) : Type 0 where

@@ -1,6 +1,6 @@
 -- What is asked of the store that a root is copied from, and what is found there.
 use Rattle.std.specs.List.{AllByRecursion}
-use Rattle.std.specs.Prelude.{ℕ, ◌≡◌, List, [], ◌∷◌, ◌++◌, None, Some, Contains, length, map}
+use Rattle.std.specs.Prelude.{ℕ, ◌<◌, ◌≡◌, List, [], ◌∷◌, ◌++◌, None, Some, Contains, length, map}
 use Rattle.hs_asking.specs.Shown.{IfTold, Shown, store_now}
 use Rattle.hs_asking.specs.Staying.{Stays}
 use Rattle.hs_laws.specs.Written.{IsBlockAt}
@@ -10,6 +10,8 @@ use Rattle.hs_model.specs.Reach.{IsReached}
 use Rattle.hs_model.specs.Store.{Root, Store, retained_at}
 use Rattle.hs_model.specs.declared.op.Op.{Op}
 use Rattle.hs_model.specs.declared.op.Op.TheVariants as op
+use Rattle.hs_model.specs.declared.reply.Reply.{Reply}
+use Rattle.hs_model.specs.declared.reply.Reply.TheVariants as reply
 use Rattle.hs_tree.specs.Fetching.{IsReading}
 use Rattle.hs_tree.specs.Storing.{our_session}
 
@@ -29,6 +31,21 @@ pub record AreReached (s : Store) (a : Address) (list : List Address) : Type 0 w
   pub once : AreDifferent list
   pub reached : (b : Address) → Contains list b → IsReached s (a ∷ []) b
   pub all : (b : Address) → IsReached s (a ∷ []) b → Contains list b
+
+-- more than so many different addresses are reached
+pub record ReachesMore (s : Store) (a : Address) (n : ℕ) : Type 0 where
+  pub list : List Address
+  pub once : AreDifferent list
+  pub reached : (b : Address) → Contains list b → IsReached s (a ∷ []) b
+  pub more : n < length list
+
+-- a key keeps an address that does
+abbrev pub KeepsMore : Store → List ℕ → ℕ → Type 0
+KeepsMore s key n = (root : Root) × (retained_at s key ≡ Some root) × ReachesMore s root.address n
+
+-- a key keeps nothing, and that was told
+abbrev pub IsUnkept : Store → List ℕ → Reply → Type 0
+IsUnkept s key told = (told ≡ reply.NoKey key) × (retained_at s key ≡ None)
 
 -- each root that a key retains it retains later, and all that its address leads to stays with the same blocks
 pub record KeepsItsOwn (s t : Store) : Type 0 where

@@ -1,14 +1,14 @@
 -- How far the blocks of a copy are written, and what each part of that does.
 use Rattle.std.specs.List.{AllByRecursion, AllZip}
-use Rattle.std.specs.Prelude.{Bool, true, false, ℕ, ◌+◌, ◌≡◌, ◌≤◌, ◌⊎◌, List, [], ◌∷◌, ◌++◌, None, Option, Some, Result, Ok, Err, length, map, slice_get, slice_index_or}
+use Rattle.std.specs.Prelude.{Bool, true, false, ℕ, ◌+◌, ◌≡◌, ◌≤◌, ◌⊎◌, List, [], ◌∷◌, ◌++◌, None, Option, Some, Result, Ok, Err, length, map, slice_get, slice_index, slice_index_or}
 use Rattle.hs_asking.specs.Seats.{IsSane}
 use Rattle.hs_asking.specs.Shown.{Began, IfTold, Shown, store_now}
 use Rattle.hs_asking.specs.Telling.{grants}
 use Rattle.hs_copy.specs.Calls.{CallFails, IsCore, IsHeard}
-use Rattle.hs_copy.specs.Hands.{HasHands, HasOnly}
+use Rattle.hs_copy.specs.Hands.{HasHands, HasOnly, IsTooOld}
 use Rattle.hs_copy.specs.Heard.{AreHeard, joined, ops_of}
 use Rattle.hs_copy.specs.Listing.{AreDifferent, name_of}
-use Rattle.hs_copy.specs.Writing.{ComesNext, IsBroken, IsForget, IsForgetDone, IsStale, IsWorkDone, deletes_in}
+use Rattle.hs_copy.specs.Writing.{ComesNext, IsBroken, IsCopyRefusal, IsForget, IsForgetDone, IsStale, IsWorkDone, deletes_in}
 use Rattle.hs_copy.specs.declared.fault.PartFault.{PartFault}
 use Rattle.hs_copy.specs.declared.fault.PartFault.TheVariants as part
 use Rattle.hs_copy.specs.declared.order.Placed.{Placed}
@@ -113,6 +113,18 @@ pub record HoldsNodes (name : List ℕ → Address) (b : Began) (s : Store) (sin
 abbrev pub HoldsSo : {tells : Type 0} → (List ℕ → Address) → Shown tells → List Node → Type 0
 HoldsSo name now nodes = IfTold now (λ b. (since : ℕ) × HoldsNodes name b (store_now b now) since nodes)
 
+-- the epoch of shard 0
+abbrev pub epoch_now : {tells : Type 0} → Shown tells → ℕ
+epoch_now now = slice_index (store_now now.began now).epochs 0
+
+-- the nodes are held by handles that were given since an epoch of it
+abbrev pub HoldsSince : {tells : Type 0} → (List ℕ → Address) → ℕ → Shown tells → List Node → Type 0
+HoldsSince name since now nodes = IfTold now (λ b. HoldsNodes name b (store_now b now) since nodes)
+
+-- a handle was given too long ago, or the block or the root was refused
+abbrev pub IsToldWhy : List ℕ → ℕ → Store → Reply → Type 0
+IsToldWhy key since s told = IsTooOld s since told ⊎ IsCopyRefusal key told
+
 -- where a block's name is present it is that block
 abbrev pub IsMine : (List ℕ → Address) → Store → Block → Type 0
 IsMine name s block = HasOnly s (name_of name block) block
@@ -138,6 +150,7 @@ pub record WritesAll {tells : Type 0} (name : List ℕ → Address) (old new : S
   pub going : new.ended ≡ None
   pub began : new.began ≡ old.began
   pub holds : HoldsSo name new nodes
+  pub fresh : HoldsSince name (epoch_now old) new nodes
   pub mine : IfTold new (λ c. AreDifferent (names_in name placed) → AllByRecursion (IsMine name (store_now c new)) (blocks_of name [] placed))
 
 -- what may come behind some writes: the next one, the root, or a deletion
@@ -167,6 +180,7 @@ pub record RoundStops {tells : Type 0} (name : List ℕ → Address) (key : List
   pub exact : (told : Reply) → f ≡ part.Refused told → deletes_in (ops_of work) + a ≡ b
   pub going : (told : Reply) → f ≡ part.Refused told → new.ended ≡ None
   pub holds : (told : Reply) → f ≡ part.Refused told → HoldsSo name new nodes
+  pub cause : (told : Reply) → f ≡ part.Refused told → IfTold new (λ c. IsToldWhy key (epoch_now old) (store_now c new) told)
 
 -- the key keeps the name of the last of some places
 pub record KeepsLast (name : List ℕ → Address) (s : Store) (key : List ℕ) (placed : List Placed) : Type 0 where
@@ -204,6 +218,7 @@ pub record RoundStale {tells : Type 0} (name : List ℕ → Address) (key : List
   pub going : new.ended ≡ None
   pub began : new.began ≡ old.began
   pub holds : HoldsSo name new nodes
+  pub risen : IfTold new (λ c. epoch_now old + 1 ≤ epoch_now new)
 
 abbrev pub RoundIs : {tells : Type 0} → (List ℕ → Address) → List ℕ → Shown tells → Shown tells → List Placed → List Node → ℕ → ℕ → Bool → Type 0
 RoundIs name key old new placed nodes a b true = RoundDone name key old new placed a b
@@ -212,10 +227,17 @@ RoundIs name key old new placed nodes a b false = RoundStale name key old new pl
 -- a beginning's result where a stale handle is no fault
 abbrev pub IsTriedAs : {T : Type 0} → Result T PartFault → Result Bool PartFault → Type 0
 IsTriedAs (Ok x) tried = tried ≡ Ok true
-IsTriedAs (Err (part.Refused told)) tried = ((tried ≡ Ok false) × IsStale told) ⊎ (tried ≡ Err (part.Refused told))
+IsTriedAs (Err (part.Refused told)) tried = ((tried ≡ Ok false) × IsStale told) ⊎ (tried ≡ Err (part.Refused told)) × (IsStale told → ⊥)
 IsTriedAs (Err (part.Core core)) tried = tried ≡ Err (part.Core core)
 IsTriedAs (Err part.TooMany) tried = tried ≡ Err part.TooMany
 IsTriedAs (Err part.NoMemory) tried = tried ≡ Err part.NoMemory
+
+-- a fault that is no stale handle
+abbrev pub IsNotStale : PartFault → Type 0
+IsNotStale (part.Core core) = Unit {0}
+IsNotStale (part.Refused told) = IsStale told → ⊥
+IsNotStale part.TooMany = Unit {0}
+IsNotStale part.NoMemory = Unit {0}
 
 -- ---- forgetting
 
@@ -244,6 +266,13 @@ pub record ForgetStops {tells : Type 0} (old new : Shown tells) (f : PartFault) 
   pub end : IsForgetEnd mid new f
   pub began : new.began ≡ old.began
 
+-- where these nodes are held none of their forgets is refused
+abbrev pub AreForgettable : {tells : Type 0} → (List ℕ → Address) → Shown tells → List Node → PartFault → Type 0
+AreForgettable name old nodes (part.Core core) = Unit {0}
+AreForgettable name old nodes (part.Refused told) = HoldsSo name old nodes → IfTold old (λ b. ⊥)
+AreForgettable name old nodes part.TooMany = Unit {0}
+AreForgettable name old nodes part.NoMemory = Unit {0}
+
 -- ---- all beginnings
 
 -- some beginnings came to a stale handle, and nothing is held
@@ -256,6 +285,7 @@ pub record RoundsBroken {tells : Type 0} (name : List ℕ → Address) (key : Li
   pub going : now.ended ≡ None
   pub began : now.began ≡ old.began
   pub holds : HoldsSo name old [] → HoldsSo name now []
+  pub risen : IfTold now (λ c. epoch_now old + n ≤ epoch_now now)
 
 -- and then the last one was done
 pub record RoundsDone {tells : Type 0} (name : List ℕ → Address) (key : List ℕ) (old new : Shown tells) (placed : List Placed) (a : ℕ) : Type 0 where
@@ -270,8 +300,8 @@ pub record RoundsDone {tells : Type 0} (name : List ℕ → Address) (key : List
 
 -- or stopped, or the forgets behind a stale handle were
 pub data RoundsStop {tells : Type 0} (name : List ℕ → Address) (key : List ℕ) (old new : Shown tells) (placed : List Placed) (a : ℕ) (f : PartFault) : Type 0 where
-  in_round : (n : ℕ) → n ≤ 4 → (mid : Shown tells) (c b : ℕ) (nodes : List Node) → RoundsBroken name key old mid placed n a c → RoundStops name key mid new placed nodes c b f → RoundsStop name key old new placed a f
-  in_forgets : (n : ℕ) → n ≤ 4 → (mid stale : Shown tells) (c b : ℕ) (nodes : List Node) → RoundsBroken name key old mid placed n a c → RoundStale name key mid stale placed nodes c b → b ≤ 4 → ForgetStops stale new f → RoundsStop name key old new placed a f
+  in_round : (n : ℕ) → n ≤ 4 → (mid : Shown tells) (c b : ℕ) (nodes : List Node) → RoundsBroken name key old mid placed n a c → RoundStops name key mid new placed nodes c b f → (n ≡ 4) ⊎ IsNotStale f → RoundsStop name key old new placed a f
+  in_forgets : (n : ℕ) → n ≤ 4 → (mid stale : Shown tells) (c b : ℕ) (nodes : List Node) → RoundsBroken name key old mid placed n a c → RoundStale name key mid stale placed nodes c b → b ≤ 4 → ForgetStops stale new f → AreForgettable name stale nodes f → RoundsStop name key old new placed a f
 
 -- ---- with the open
 
@@ -285,3 +315,10 @@ pub record RootDone {tells : Type 0} (name : List ℕ → Address) (key : List �
 pub data RootStops {tells : Type 0} (name : List ℕ → Address) (key : List ℕ) (old new : Shown tells) (placed : List Placed) (f : PartFault) : Type 0 where
   unopened : CallFails old new (op.Open our_session) f → RootStops name key old new placed f
   opened : (mid : Shown tells) → Hears old mid (op.Open our_session) reply.Ok → RoundsStop name key mid new placed 0 f → RootStops name key old new placed f
+
+-- where the store is told, a refusal is of a block or of the root
+abbrev pub IsWriteCause : {tells : Type 0} → List ℕ → Shown tells → PartFault → Type 0
+IsWriteCause key old (part.Core core) = Unit {0}
+IsWriteCause key old (part.Refused told) = IfTold old (λ b. IsCopyRefusal key told)
+IsWriteCause key old part.TooMany = Unit {0}
+IsWriteCause key old part.NoMemory = Unit {0}

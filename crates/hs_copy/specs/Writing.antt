@@ -46,6 +46,13 @@ abbrev pub IsStale : Reply → Type 0
 IsStale (reply.Stale handle held now) = Unit {0}
 IsStale other = ⊥
 
+-- what may be told of a copy's block, or of its root, but that a handle was too old
+pub data IsCopyRefusal (key : List ℕ) (told : Reply) : Type 0 where
+  Collides : told ≡ reply.Collision → IsCopyRefusal key told
+  ShardIsFull : told ≡ reply.ShardFull 16384 → IsCopyRefusal key told
+  KeyIsTaken : told ≡ reply.KeyTaken key → IsCopyRefusal key told
+  RootsAreFull : told ≡ reply.RootsFull 4096 → IsCopyRefusal key told
+
 -- behind some of these writes comes the next one, or the root where none is left
 abbrev pub ComesNext : List ℕ → List (List ℕ × Option Address) → List (Op × Reply) → Op → Type 0
 ComesNext key all work (op.Write name payload handles address) = (name ≡ our_session) × (back : List (List ℕ × Option Address)) × (writes_in (ops_of work) ++ (payload, address) ∷ back ≡ all)

@@ -1,11 +1,13 @@
 //! Copying a root with all that it reaches into another store.
-ghost use Rattle.std.specs.Prelude.{◌≡◌, ◌≤◌, IfErr, IfOk, None, length};
-ghost use Rattle.hs_asking.specs.Shown.{IfTold};
+ghost use Rattle.std.specs.Prelude.{◌≡◌, ◌≤◌, IfErr, IfOk, None, [], length};
+ghost use Rattle.hs_asking.specs.Shown.{IfTold, store_now};
 ghost use Rattle.hs_copy.specs.Copying.{HasCopied, IsStopped};
 ghost use Rattle.hs_copy.specs.Due.{DeletesWhenDue};
-ghost use Rattle.hs_copy.specs.Finding.{ListingStops};
-ghost use Rattle.hs_copy.specs.Listing.{HasListed};
+ghost use Rattle.hs_copy.specs.Finding.{IsRootCause, ListingStops};
+ghost use Rattle.hs_copy.specs.Listing.{AreAllOf, HasListed};
 ghost use Rattle.hs_copy.specs.Placing.{AreBelow};
+ghost use Rattle.hs_copy.specs.Rounds.{blocks_of};
+ghost use Rattle.hs_tree.specs.Fetching.{IsAlone};
 ghost use Rattle.hs_tree.specs.Storing.{IsIdle, our_session};
 
 use crate::CopyFault;
@@ -29,12 +31,17 @@ fn list_root<B: Asker>(
 ) -> Result<Vec<Placed>, PartFault>
     requires going { (B.shows asker.old).ended ≡ None }
     requires ours { session.now ≡ our_session }
+    requires alone { IfTold (B.shows asker.old) (λ b. IsAlone b (B.shows asker.old)) }
     ensures listed { IfOk result (λ placed. HasListed key.now (B.shows asker.old)
         (B.shows asker.new) (length placed.items)) }
     ensures few { IfOk result (λ placed. length placed.items ≤ 4000) }
     ensures below { IfOk result (λ placed. AreBelow 0 placed.items) }
+    ensures all { IfOk result (λ placed. IfTold (B.shows asker.old) (λ b. AreAllOf b.name
+        (store_now b (B.shows asker.old)) key.now (blocks_of b.name [] placed.items))) }
     ensures stops { IfErr result (λ f. ListingStops key.now (B.shows asker.old)
         (B.shows asker.new) f) }
+    ensures cause { IfErr result (λ f. IfTold (B.shows asker.old) (λ b.
+        IsRootCause (store_now b (B.shows asker.old)) key.now f)) }
 {
     asker.known();
     open(alloc, asker, session)?;

@@ -15,4 +15,4 @@ mod write;
 
 pub use copy::copy_root;
 pub use fault::CopyFault;
-pub use laws::a_copy_is_copied;
+pub use laws::{a_copy_is_copied, a_root_is_counted};

@@ -2,7 +2,7 @@
 ghost use Rattle.std.specs.Prelude.{◌≡◌, ◌≤◌, IfErr, IfOk, None, OnOk, length};
 ghost use Rattle.std.specs.BTreeMap.{insert_entry};
 ghost use Rattle.hs_model.specs.Store.{address_cmp};
-ghost use Rattle.hs_copy.specs.Whole.{IsHeldAddress, NumbersAll, NumbersOne};
+ghost use Rattle.hs_copy.specs.Whole.{IsHeldAddress, ListFails, ListsAll, NumberFails, NumbersAll, NumbersFail, NumbersOne, ReadFails, ReadsOne};
 ghost use Rattle.hs_copy.specs.Finding.{Reads, ReadsStop};
 ghost use Rattle.hs_copy.specs.declared.fault.PartFault.TheVariants.{NoMemory};
 ghost use Rattle.hs_tree.specs.Storing.{our_session};
@@ -77,6 +77,8 @@ fn number_one<B: Asker>(
         length found.old.items ≤ 4000 → length found.new.items ≤ 4000) }
     ensures stops { IfErr result (λ f.
         ReadsStop (B.shows asker.old) (B.shows asker.new) 0 f) }
+    ensures fails { IfErr result (λ f. NumberFails (B.shows asker.old) handle
+        numbers.old.entries found.old.items f) }
 {
     let address = held_address(asker, session, handle)?;
     if let Some(number) = numbers.get(&address).copied() {
@@ -110,6 +112,8 @@ fn number_all<B: Asker>(
         length found.old.items ≤ 4000 → length found.new.items ≤ 4000) }
     ensures stops { IfErr result (λ f.
         ReadsStop (B.shows asker.old) (B.shows asker.new) 0 f) }
+    ensures fails { IfErr result (λ f. NumbersFail (B.shows asker.old) handles.now
+        numbers.old.entries found.old.items f) }
 {
     let mut pointers = Vec::new(alloc);
     for handle in handles {
@@ -131,10 +135,14 @@ fn read_one<B: Asker>(
     requires going { (B.shows asker.old).ended ≡ None }
     requires ours { session.now ≡ our_session }
     ensures reads { IfOk result (λ x. Reads (B.shows asker.old) (B.shows asker.new) 1) }
+    ensures one { IfOk result (λ x. ReadsOne (B.shows asker.old) (B.shows asker.new) handle
+        numbers.old.entries numbers.new.entries found.old.items found.new.items x) }
     ensures few { IfOk result (λ x.
         length found.old.items ≤ 4000 → length found.new.items ≤ 4000) }
     ensures stops { IfErr result (λ f.
         ReadsStop (B.shows asker.old) (B.shows asker.new) 1 f) }
+    ensures fails { IfErr result (λ f. ReadFails (B.shows asker.old) handle
+        numbers.old.entries found.old.items f) }
 {
     let (bytes, handles) = read(alloc, asker, session, handle)?;
     forget(alloc, asker, session, handle)?;
@@ -153,9 +161,11 @@ pub(crate) fn list_blocks<B: Asker>(
     requires going { (B.shows asker.old).ended ≡ None }
     requires ours { session.now ≡ our_session }
     ensures reads { IfOk result (λ x. Reads (B.shows asker.old) (B.shows asker.new) (length x.items)) }
+    ensures all { IfOk result (λ x. ListsAll (B.shows asker.old) (B.shows asker.new) handle x.items) }
     ensures few { IfOk result (λ x. length x.items ≤ 4000) }
     ensures stops { IfErr result (λ f.
         ReadsStop (B.shows asker.old) (B.shows asker.new) 4000 f) }
+    ensures fails { IfErr result (λ f. ListFails (B.shows asker.old) handle f) }
 {
     let mut numbers = BTreeMap::new(alloc);
     let mut found = Vec::new(alloc);

@@ -3,7 +3,7 @@ ghost use Rattle.std.specs.Prelude.{◌≡◌, ◌≤◌, ℕ, List, [], false, 
 ghost use Rattle.hs_asking.specs.Shown.{IfTold};
 ghost use Rattle.hs_copy.specs.Calls.{CallFails};
 ghost use Rattle.hs_copy.specs.Due.{DeletesOn, DeletesSo, DeletesWhenDue, WhereRefused, count_of, is_due};
-ghost use Rattle.hs_copy.specs.Rounds.{Forgets, ForgetStops, HoldsSo, IsLast, IsNamedBy, IsTriedAs, PlacedFails, RootDone, RootStops, RoundDone, RoundIs, RoundStops, RoundsDone, RoundsStop, WritesAll, WritesNode, WritesPlaced, write_above};
+ghost use Rattle.hs_copy.specs.Rounds.{AreForgettable, Forgets, ForgetStops, HoldsSo, IsLast, IsNamedBy, IsNotStale, IsTriedAs, IsWriteCause, PlacedFails, RootDone, RootStops, RoundDone, RoundIs, RoundStops, RoundsDone, RoundsStop, WritesAll, WritesNode, WritesPlaced, write_above};
 ghost use Rattle.hs_copy.specs.declared.fault.PartFault.TheVariants.{NoMemory};
 ghost use Rattle.hs_limits.specs.Block.{spell};
 ghost use Rattle.hs_limits.specs.declared.spelling.TheConstants.{MOST_BYTES, MOST_POINTERS};
@@ -184,6 +184,8 @@ fn forget_all<B: Asker, A: Addresser>(
     ensures ok { OnOk result (Forgets (A.name _naming.now)
         (B.shows asker.old) (B.shows asker.new) nodes.now) }
     ensures err { IfErr result (λ f. ForgetStops (B.shows asker.old) (B.shows asker.new) f) }
+    ensures granted { IfErr result (λ f. AreForgettable (A.name _naming.now)
+        (B.shows asker.old) nodes.now f) }
 {
     for node in nodes {
         forget(alloc, asker, session, node.handle)?;
@@ -299,6 +301,7 @@ fn try_round<B: Asker, A: Addresser>(
     ensures err { IfErr result (λ f. RoundStops (A.name naming.now) key.now
         (B.shows asker.old) (B.shows asker.new) placed.now nodes.new.items
         deleting.old.asked deleting.new.asked f) }
+    ensures caught { IfErr result IsNotStale }
     ensures due { IfOk result (λ whole. DeletesSo (count_of deleting.old)
         (count_of deleting.new) (B.shows asker.old) (B.shows asker.new)) }
 {
@@ -364,6 +367,7 @@ pub(crate) fn write_root<B: Asker, A: Addresser>(
         (B.shows asker.new) placed.now) }
     ensures err { IfErr result (λ f. RootStops (A.name naming.now) key.now
         (B.shows asker.old) (B.shows asker.new) placed.now f) }
+    ensures cause { IfErr result (λ f. IsWriteCause key.now (B.shows asker.old) f) }
     ensures due { OnOk result (DeletesWhenDue every (B.shows asker.old) (B.shows asker.new)) }
 {
     let mut deleting = Deleting {

@@ -52,7 +52,7 @@ pub record HasLooked {tells : Type 0} (key : List ℕ) (old now : Shown tells) (
   pub holds : HoldsTop b (store_now b now) our_session next x
 
 module _ {tells : Type 0} (key : List ℕ) (old : Shown tells) (alone : IfTold old (λ b. IsAlone b old)) (law : IfTold old (λ b. AreAnswersOf b old)) where
-  opened_as : (mid : Shown tells) → tells → (b : Began) → old.began ≡ b → (told : Reply) → Hears old mid (op.Open our_session) told → IsOpened (store_now b old) (store_now b mid) our_session told
+  pub opened_as : (mid : Shown tells) → tells → (b : Began) → old.began ≡ b → (told : Reply) → Hears old mid (op.Open our_session) told → IsOpened (store_now b old) (store_now b mid) our_session told
   opened_as mid sure b e told hears =
       let a : IsAlone b old = told_at (λ b. IsAlone b old) old b sure e alone in
       let sessions : b.limits.sessions ≡ 64 = ap (λ l. l.sessions) a.limits in
@@ -86,7 +86,7 @@ module _ {tells : Type 0} (key : List ℕ) (old : Shown tells) (alone : IfTold o
   open_stops mid fault.NoMemory going c = subst (λ z. IsFetchStopped key old z fault.NoMemory) (sym c) (record { ops = []; asked = sym (append-nil old.asked); kinds = tt; began = refl; ended = going; kind = tt; last = tt; cause_before = where_began (λ b. Unit {0}) old (λ sure b e. tt); cause = where_began (λ b. Unit {0}) old (λ sure b e. tt) })
 
   module _ (mid : Shown tells) (opened : Hears old mid (op.Open our_session) reply.Ok) where
-    looked_as : (now : Shown tells) → tells → (b : Began) → old.began ≡ b → (told : Reply) → Hears mid now (op.Look our_session key) told → IsLooked (store_now b mid) (store_now b now) our_session 0 [] key told
+    pub looked_as : (now : Shown tells) → tells → (b : Began) → old.began ≡ b → (told : Reply) → Hears mid now (op.Look our_session key) told → IsLooked (store_now b mid) (store_now b now) our_session 0 [] key told
     looked_as now sure b e told hears =
         let o = opened_as mid sure b e reply.Ok opened in
         let limit : b.limits.handles ≡ 4096 = handles_of sure b e in

@@ -1,5 +1,6 @@
 use Rattle.std.proofs.lemmas.Result.{err_from_is_err_and}
 use Rattle.std.proofs.Common.{[], arith, sym, subst}
+use Rattle.hs_copy.proofs.FailLemmas.{numbers_fail}
 use Rattle.hs_copy.proofs.ListingLemmas.{numbers_none, numbers_step}
 use Rattle.hs_copy.specs.Whole.{NumbersAll}
 use Rattle.hs_copy.proofs.ListLemmas.{done_stop, reads_none, reads_on, stops_then}
@@ -28,3 +29,8 @@ loop-handle-init g c = record {
   numbers = subst (λ z. NumbersAll (g.B.Asker.shows c.args.asker.now) (g.B.Asker.shows c.args.asker.now) [] c.args.numbers.now.entries c.args.numbers.now.entries c.args.found.now.items c.args.found.now.items z) (sym c.new-pointers.ensures.items) (numbers_none (g.B.Asker.shows c.args.asker.now) c.args.numbers.now.entries c.args.found.now.items);
   few = λ h. h;
 }
+
+pub returns-in_err-number-clause-fails : goal.returns-in_err-number-clause-fails
+returns-in_err-number-clause-fails g c =
+    let p = err_from_is_err_and c.from_residual.result c.from_residual.ensures.1 in
+    rw (p.1, p.2) (numbers_fail (g.B.Asker.shows c.args.asker.now) (g.B.Asker.shows c.loop-handle.asker) c.args.handles.now c.loop-handle.handle-index _ c.args.numbers.now.entries c.loop-handle.numbers.entries c.args.found.now.items c.loop-handle.found.items c.loop-handle.pointers.items c.in_err-number.field-0.0 c.loop-handle-test.true c.loop-handle.invariant.reads c.loop-handle.invariant.numbers c.in_err-number.ensures.fails)

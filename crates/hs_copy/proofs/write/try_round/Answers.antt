@@ -1,4 +1,4 @@
-use Rattle.hs_copy.proofs.StepLemmas.{tried_err, tried_ok}
+use Rattle.hs_copy.proofs.StepLemmas.{tried_caught, tried_err, tried_ok}
 use Rattle.hs_copy.proofs.DueLemmas.{tried_so}
 use Rattle.hs_copy.specs.Due.{DeletesSo, count_of}
 use Rattle.hs_copy.specs.Rounds.{RoundStops}
@@ -12,3 +12,6 @@ returns-clause-err g c = tried_err (λ f. RoundStops (g.A.Addresser.name c.args.
 
 pub returns-clause-due : goal.returns-clause-due
 returns-clause-due g c = tried_so (DeletesSo (count_of c.args.deleting.now) (count_of c.write_round.new.deleting) (g.B.Asker.shows c.args.asker.now) (g.B.Asker.shows c.write_round.new.asker)) c.write_round.result c.whole_or_stale.result c.whole_or_stale.ensures c.write_round.ensures.due c.write_round.ensures.refused
+
+pub returns-clause-caught : goal.returns-clause-caught
+returns-clause-caught g c = tried_caught c.write_round.result c.whole_or_stale.result c.whole_or_stale.ensures
