@@ -13,6 +13,7 @@ use Rattle.hs_events.proofs.GoingLemmas.{step_goes}
 use Rattle.hs_events.specs.Course.{steps}
 use Rattle.hs_events.specs.Due.{Events, MomentsRise}
 use Rattle.hs_standing.proofs.ComingLemmas.{may_stand}
+use Rattle.hs_standing.specs.Copies.{AllKnowTheirCopies}
 use Rattle.hs_standing.proofs.LinesStepLemmas.{step_ended}
 use Rattle.hs_model.specs.Store.{Store}
 use Rattle.hs_standing.specs.Run.{MayRun}
@@ -29,6 +30,14 @@ room_front core (e ∷ es) fs h = (h.0, room_front (step e.0 e.1 core) es fs h.1
 room_rest : (core : Core) (es fs : Events) → KeepsRecordRoom core (es ++ fs) → KeepsRecordRoom (steps core es) fs
 room_rest core [] fs h = h
 room_rest core (e ∷ es) fs h = room_rest (step e.0 e.1 core) es fs h.1
+
+pub known_front : (core : Core) (es fs : Events) → AllKnowTheirCopies core (es ++ fs) → AllKnowTheirCopies core es
+known_front core [] fs h = tt
+known_front core (e ∷ es) fs h = (h.0, known_front (step e.0 e.1 core) es fs h.1)
+
+pub known_rest : (core : Core) (es fs : Events) → AllKnowTheirCopies core (es ++ fs) → AllKnowTheirCopies (steps core es) fs
+known_rest core [] fs h = h
+known_rest core (e ∷ es) fs h = known_rest (step e.0 e.1 core) es fs h.1
 
 module _ (by : Judging) (start : Store) where
   blocks_front : (core : Core) (es fs : Events) → TellTheirBlocks by start core (es ++ fs) → TellTheirBlocks by start core es

@@ -1,15 +1,15 @@
--- Of a run that is shown whole, over sound disks, whose core goes on behind its opening: all that is asked of it follows.
+-- Of a run that is shown whole, over sound disks, whose core goes on behind its opening: all that is asked of it follows, so that it runs soundly.
 use Rattle.std.proofs.Common.{◌≡◌, ap, sym, subst, ℕ, zero, suc, ◌+◌, ◌<◌, ◌≤◌, ◌++◌, Bool, true, false, List, [], Option, Some, None, refl, map, arith}
 use Rattle.std.specs.List.{AllByRecursion, range_with_len}
 use Rattle.std.specs.Prelude.{unwrap_or}
 use Rattle.hs_standing.specs.Walks.{HasRecordRoom}
-use Rattle.hs_standing.specs.Answered.{IsAskedAlong, KeepsRecordRoom, TellTheirBlocks, judging_of}
+use Rattle.hs_standing.specs.Answered.{KeepsRecordRoom, TellTheirBlocks, judging_of}
 use Rattle.hs_clauses.proofs.LineLemmas.{flat_same, joined, opening_due}
 use Rattle.hs_clauses.proofs.ListLemmas.{lists_are, opened_is}
 use Rattle.hs_clauses.proofs.ReadLemmas.{BringsAll, applied_all, from_empty, read_brings, read_from_one}
-use Rattle.hs_clauses.proofs.RoomLemmas.{first_room, keeps_room, last_room}
+use Rattle.hs_clauses.proofs.RoomLemmas.{keeps_room}
 use Rattle.hs_clauses.specs.Asked.{lined, start_of}
-use Rattle.hs_clauses.specs.Shown.{IsShown, OnDisks}
+use Rattle.hs_clauses.specs.Shown.{IsShown, OnDisks, RunsSoundly}
 use Rattle.hs_cluster.proofs.OpeningMoves.{all_good}
 use Rattle.hs_cluster.specs.Kept.{AreTold}
 use Rattle.hs_events.specs.Course.{steps}
@@ -29,12 +29,13 @@ use Rattle.hs_promise.specs.Entry.{IsSoundAtEntry, entry_logs, entry_store}
 use Rattle.hs_promise.specs.Found.{IsReadAs}
 use Rattle.hs_promise.specs.Machine.{Went, opening_is_whole}
 use Rattle.hs_promise.specs.Run.{Ran, Script}
-use Rattle.hs_promise.specs.Story.{Story, all_events, last_core}
+use Rattle.hs_promise.specs.Story.{Story, all_events}
 use Rattle.hs_clauses.specs.Run.{script_of}
 use Rattle.hs_shard.specs.Facts.{Catalogue, empty_catalogue}
 use Rattle.hs_side.specs.Current.{list_in}
 use Rattle.hs_sound.specs.Stay.{AreSoundAlong}
-use Rattle.hs_standing.proofs.TakenLemmas.{FoldsInMemory}
+use Rattle.hs_standing.proofs.FirstRoomLemmas.{first_room}
+use Rattle.hs_standing.proofs.TakenLemmas.{FoldsInMemory, run_begins}
 use Rattle.hs_standing.specs.Opening.{opened_lists}
 use Rattle.hs_standing.specs.Run.{RunOpens}
 use Rattle.hs_standing.specs.Standing.{judging_of as run_judging}
@@ -52,8 +53,7 @@ pub record IsAskedOf (S : Script) (r : Ran) (story : Story) : Type 0 where
   pub lists : (shard : ℕ) → shard < S.set.shape.shards → IsFromOne (opened_list S.set story.found shard)
   pub addressed : AllByRecursion KeepsAddresses (opens_with S.set story.found).catalogues
   pub few : HasRecordRoom (first_core S.set story.found)
-  pub along : IsAskedAlong (judging_of (lined S r) S.set.limits) (entry_store S r) (first_core S.set story.found) (all_events story)
-  pub last : (last_core S story).ended ≡ None → HasRecordRoom (last_core S story)
+  pub runs : RunsSoundly S r story
 
 -- ---- what a disk was read as
 
@@ -150,8 +150,7 @@ module _ (memory : FoldsInMemory) (reads : ReadsBlocks) (S : Script) (r : Ran) (
     lists = lists;
     addressed = addressed;
     few = few;
-    along = record { room = rooms; blocks = blocks };
-    last = last_room (first_core S.set story.found) (all_events story) (λ goes. few) shown.rooms;
+    runs = record { went = shown.went; begins = run_begins (start_of S r) story.found opens; rooms = shown.rooms; blocks = blocks };
   }
 
 -- ---- it opens at the store at entry

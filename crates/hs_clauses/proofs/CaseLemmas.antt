@@ -1,13 +1,13 @@
 -- Each clause of a run, whether a core was opened and went on, ended with its opening, or never was.
 use Rattle.std.proofs.Common.{◌≡◌, Option, Some, None, refl}
 use Rattle.hs_clauses.proofs.AnswerLemmas.{answers_of, full_of}
-use Rattle.hs_clauses.proofs.AskedLemmas.{IsAskedOf, ReadsBlocks, asked_of}
+use Rattle.hs_clauses.proofs.AskedLemmas.{ReadsBlocks, asked_of}
 use Rattle.hs_clauses.proofs.ComingLemmas.{ComingLaws}
 use Rattle.hs_clauses.proofs.EndedLemmas.{ended_answers, ended_full, ended_stops}
 use Rattle.hs_clauses.proofs.ReadyLemmas.{LawsHere}
 use Rattle.hs_clauses.proofs.StopLemmas.{StopLaws, may_stop}
 use Rattle.hs_clauses.proofs.UnopenedLemmas.{never_answers, never_full, never_stops}
-use Rattle.hs_clauses.specs.Shown.{IsShown, IsToldRun, ShownAs}
+use Rattle.hs_clauses.specs.Shown.{IsShown, IsToldRun, RunsSoundly, ShownAs}
 use Rattle.hs_desk.specs.declared.fault.CoreFault.{CoreFault}
 use Rattle.hs_events.specs.Found.{first_core}
 use Rattle.hs_promise.specs.Answers.{Answers}
@@ -21,8 +21,8 @@ use Rattle.hs_standing.proofs.TakenLemmas.{FoldsInMemory}
 -- ---- answers
 
 module _ (laws : LawsHere) (coming : ComingLaws) (reads : ReadsBlocks) (S : Script) (r : Ran) (run : IsToldRun S r) (sound : IsSoundAtEntry S r) where
-  asked : (story : Story) → IsShown S r story → (first_core S.set story.found).ended ≡ None → IsAskedOf S r story
-  asked story shown going = asked_of laws.memory reads S r story run.on sound shown going
+  soundly : (story : Story) → IsShown S r story → (first_core S.set story.found).ended ≡ None → RunsSoundly S r story
+  soundly story shown going = (asked_of laws.memory reads S r story run.on sound shown going).runs
 
   pub told_answers : Answers S (entry_store S r) r.journal
   told_answers = by_how run.how run.shown
@@ -32,7 +32,7 @@ module _ (laws : LawsHere) (coming : ComingLaws) (reads : ReadsBlocks) (S : Scri
       by_how (Some story) shown = by_end (first_core S.set story.found).ended refl
         where
           by_end : (o : Option CoreFault) → (first_core S.set story.found).ended ≡ o → Answers S (entry_store S r) r.journal
-          by_end None going = answers_of laws S r story shown.went (asked story shown going)
+          by_end None going = answers_of laws S r story (soundly story shown going)
           by_end (Some fault) ended = ended_answers S r story run.on shown.went fault ended coming (entry_store S r)
 
   pub told_full : FullCause S (entry_store S r) r
@@ -43,7 +43,7 @@ module _ (laws : LawsHere) (coming : ComingLaws) (reads : ReadsBlocks) (S : Scri
       by_how (Some story) shown = by_end (first_core S.set story.found).ended refl
         where
           by_end : (o : Option CoreFault) → (first_core S.set story.found).ended ≡ o → FullCause S (entry_store S r) r
-          by_end None going = full_of laws S r story shown.went (asked story shown going)
+          by_end None going = full_of laws S r story (soundly story shown going)
           by_end (Some fault) ended = ended_full S r story run.on shown.went fault ended coming (entry_store S r)
 
 -- ---- a stop

@@ -1,5 +1,5 @@
--- What single changes keep of jobs that read: each stands in the queue of its operation's shard, where each shard has one copy.
-use Rattle.std.proofs.Common.{◌≡◌, ◌≢◌, ◌⊎◌, ◌∙◌, sym, ap, subst, inl, inr, ℕ, ◌+◌, ◌-◌, ◌*◌, ◌<◌, ◌≤◌, ◌==◌, ◌&&◌, Bool, true, false, cond, not, List, [], ◌∷◌, ◌++◌, length, map, drop, max, Option, Some, None, refl, arith}
+-- What single changes keep of jobs that read: each stands in the queue of a peer of its operation's shard.
+use Rattle.std.proofs.Common.{◌≡◌, ◌≢◌, ◌⊎◌, ◌∙◌, sym, ap, subst, inl, inr, ℕ, ◌+◌, ◌-◌, ◌<◌, ◌≤◌, ◌==◌, ◌&&◌, Bool, true, false, cond, not, List, [], ◌∷◌, ◌++◌, length, map, drop, max, Option, Some, None, refl, arith}
 use Rattle.std.proofs.lemmas.Bool.{cases_eq, cases_lt}
 use Rattle.std.proofs.lemmas.List.{get_or-set_other, get_or-set_same, length-map, length-set, set_past}
 use Rattle.std.proofs.lemmas.List.FromFn.{length-enumerate_from}
@@ -13,6 +13,7 @@ use Rattle.hs_awaiting.specs.declared.wait.Wait.TheVariants as wait
 use Rattle.hs_awaiting.specs.declared.waiting.Waiting.{Waiting}
 use Rattle.hs_awaiting.specs.Views.{is_within, restarted}
 use Rattle.hs_awaiting.specs.Words.{change_with}
+use Rattle.hs_core_copies.proofs.LeadLemmas.{lead_is}
 use Rattle.hs_core_words.specs.Changing.{add_entry_tasks, add_task, change_group, end_operation, post, put_operation, set_tasks}
 use Rattle.hs_core_words.specs.declared.task.Task.{Task}
 use Rattle.hs_core_words.specs.Looking.{group_of, lead_of, operation_of, shape_of, tasks_of}
@@ -25,8 +26,7 @@ use Rattle.hs_effects.proofs.LookLemmas.{found_map, found_set, gone, insert_othe
 use Rattle.hs_effects.specs.Logged.{AreOnce}
 use Rattle.hs_entry.specs.declared.entry.Entry.{Entry}
 use Rattle.hs_limits.specs.declared.shape.Shape.{Shape}
-use Rattle.hs_limits.specs.Shape.{peer_of}
-use Rattle.hs_members.specs.Members.{Members, is_good_status, lead_by, longest, status}
+use Rattle.hs_members.specs.Members.{Members, home_of, is_good_status, status}
 use Rattle.hs_clauses.specs.Home.{IsAtHome}
 use Rattle.hs_replica.specs.declared.replica.Replica.{Replica}
 use Rattle.hs_replica.specs.Group.{Group, change_copy, first_peer, hears, last_number, lead, lead_takes, new_group, on_copied, on_emptied, on_have, on_sealed, proposal, propose, renew, take_entry, tell}
@@ -60,11 +60,10 @@ seal_not_read n m e = cc e
 -- ---- what is kept, in the parts of a core
 
 pub record FineAt (shape : Shape) (groups : List Group) (tasks : List (List Task)) (operations : List (ℕ × Waiting)) (last : ℕ) : Type 0 where
-  pub one : shape.copies ≡ 1
-  pub single : (g : ℕ) → length (slice_index_or groups g (new_group shape g 0 0 [])).copies ≤ 1
+  pub single : (g : ℕ) → length (slice_index_or groups g (new_group shape g 0 0 [])).copies ≤ shape.copies
   pub once : AreOnce operations
   pub begun : (line : ℕ) (w : Waiting) → lookup (is_at (nat_cmp line)) operations ≡ Some w → line ≤ last
-  pub home : (peer : ℕ) → AllByRecursion (IsAtHome operations last peer) (slice_index_or tasks peer [])
+  pub home : (peer : ℕ) → AllByRecursion (IsAtHome operations last (home_of shape peer)) (slice_index_or tasks peer [])
 
 abbrev pub Fine : Core → Type 0
 Fine c = FineAt (shape_of c) c.groups c.tasks c.operations c.progress.event_line
@@ -86,19 +85,19 @@ tasks_changed k peer ts tasks = by_place (cases_eq k peer)
     by_place (inr differs) = inl (get_or-set_other tasks peer k ts [] differs)
 
 -- a queue in which each job is at home
-pub fine_queue : (peer : ℕ) (ts : List Task) (c : Core) → AllByRecursion (IsAtHome c.operations c.progress.event_line peer) ts → Fine c → Fine (set_tasks peer ts c)
-fine_queue peer ts c new h = record { one = h.one; single = h.single; once = h.once; begun = h.begun; home = λ k. by k (tasks_changed k peer ts c.tasks) }
+pub fine_queue : (peer : ℕ) (ts : List Task) (c : Core) → AllByRecursion (IsAtHome c.operations c.progress.event_line (home_of (shape_of c) peer)) ts → Fine c → Fine (set_tasks peer ts c)
+fine_queue peer ts c new h = record { single = h.single; once = h.once; begun = h.begun; home = λ k. by k (tasks_changed k peer ts c.tasks) }
   where
     by : (k : ℕ) → (slice_index_or (slice_set c.tasks peer ts) k [] ≡ slice_index_or c.tasks k []) ⊎ ((k ≡ peer) × (slice_index_or (slice_set c.tasks peer ts) k [] ≡ ts))
-        → AllByRecursion (IsAtHome c.operations c.progress.event_line k) (slice_index_or (slice_set c.tasks peer ts) k [])
-    by k (inl same) = subst (λ xs. AllByRecursion (IsAtHome c.operations c.progress.event_line k) xs) (sym same) (h.home k)
+        → AllByRecursion (IsAtHome c.operations c.progress.event_line (home_of (shape_of c) k)) (slice_index_or (slice_set c.tasks peer ts) k [])
+    by k (inl same) = subst (λ xs. AllByRecursion (IsAtHome c.operations c.progress.event_line (home_of (shape_of c) k)) xs) (sym same) (h.home k)
     by k (inr is) =
-        subst (λ xs. AllByRecursion (IsAtHome c.operations c.progress.event_line k) xs) (sym is.1)
-        (subst (λ j. AllByRecursion (IsAtHome c.operations c.progress.event_line j) ts) (sym is.0) new)
+        subst (λ xs. AllByRecursion (IsAtHome c.operations c.progress.event_line (home_of (shape_of c) k)) xs) (sym is.1)
+        (subst (λ j. AllByRecursion (IsAtHome c.operations c.progress.event_line (home_of (shape_of c) j)) ts) (sym is.0) new)
 
-fine_task : (peer : ℕ) (task : Task) (c : Core) → IsAtHome c.operations c.progress.event_line peer task → Fine c → Fine (add_task peer task c)
+fine_task : (peer : ℕ) (task : Task) (c : Core) → IsAtHome c.operations c.progress.event_line (home_of (shape_of c) peer) task → Fine c → Fine (add_task peer task c)
 fine_task peer task c its h =
-    fine_queue peer (tasks_of peer c ++ task ∷ []) c (all_append (IsAtHome c.operations c.progress.event_line peer) (tasks_of peer c) (task ∷ []) (h.home peer) (its, tt)) h
+    fine_queue peer (tasks_of peer c ++ task ∷ []) c (all_append (IsAtHome c.operations c.progress.event_line (home_of (shape_of c) peer)) (tasks_of peer c) (task ∷ []) (h.home peer) (its, tt)) h
 
 pub fine_entry_tasks : (peer number : ℕ) (entry : Entry) (c : Core) → Fine c → Fine (add_entry_tasks peer number entry c)
 fine_entry_tasks peer number entry c h =
@@ -109,9 +108,9 @@ fine_entry_tasks peer number entry c h =
 -- ---- lists
 
 pub fine_group : (shard : ℕ) (f : Group → Group) (c : Core) → length (f (group_of shard c)).copies ≡ length (group_of shard c).copies → Fine c → Fine (change_group shard f c)
-fine_group shard f c same h = record { one = h.one; single = λ g. by g (group_changed shard f c g); once = h.once; begun = h.begun; home = h.home }
+fine_group shard f c same h = record { single = λ g. by g (group_changed shard f c g); once = h.once; begun = h.begun; home = h.home }
   where
-    by : (g : ℕ) → (group_of g (change_group shard f c) ≡ group_of g c) ⊎ ((g ≡ shard) × (group_of g (change_group shard f c) ≡ f (group_of shard c))) → length (group_of g (change_group shard f c)).copies ≤ 1
+    by : (g : ℕ) → (group_of g (change_group shard f c) ≡ group_of g c) ⊎ ((g ≡ shard) × (group_of g (change_group shard f c) ≡ f (group_of shard c))) → length (group_of g (change_group shard f c)).copies ≤ (shape_of c).copies
     by g (inl e) = let few = h.single g in let n = ap (λ (x : Group). length x.copies) e in omega (arith, few, n)
     by g (inr e) = let few = h.single shard in let n = ap (λ (x : Group). length x.copies) e.1 in omega (arith, few, n, same)
 
@@ -159,34 +158,20 @@ fine_propose shard entry c h = by (lead_of shard c)
     by None = listed
     by (Some peer) = fine_entry_tasks peer (last_number (group_of shard c) + 1) entry sent listed
 
--- ---- the lead of a shard is its only peer
+-- ---- the lead of a shard is a peer of it
 
-good_is : (q n p : ℕ) (b : Bool) → option_map (λ (x : ℕ × ℕ). x.0) (longest (cond b ((q, n) ∷ []) [])) ≡ Some p → p ≡ q
-good_is q n p true e = sym (some_is q p e)
-good_is q n p false e = absurd (some_not p e)
-
-first_is : (shard : ℕ) (shape : Shape) → shape.copies ≡ 1 → shard * shape.copies + 0 ≡ shard
-first_is shard shape one = ap (λ n. shard * n + 0) one ∙ omega arith
-
-lead_one : (m : Members) (shard p : ℕ) (copies : List Replica) → m.shape.copies ≡ 1 → length copies ≤ 1 → lead_by shard (map (λ (copy : Replica). length copy.stamps) copies) m ≡ Some p → p ≡ shard
-lead_one m shard p [] one few e = absurd (some_not p e)
-lead_one m shard p (copy ∷ []) one few e =
-    good_is (peer_of m.shape shard 0) (length copy.stamps) p (is_good_status (status (peer_of m.shape shard 0) m)) e ∙ first_is shard m.shape one
-lead_one m shard p (a ∷ b ∷ rest) one few e = absurd (omega (arith, few))
-
-pub lead_home : (c : Core) (shard p : ℕ) → Fine c → lead_of shard c ≡ Some p → p ≡ shard
-lead_home c shard p h e = lead_one c.members shard p (group_of shard c).copies h.one (h.single shard) e
+pub lead_home : (c : Core) (shard p : ℕ) → Fine c → lead_of shard c ≡ Some p → home_of (shape_of c) p ≡ shard
+lead_home c shard p h e = (lead_is shard c p (h.single shard) e).own
 
 -- ---- operations
 
 pub fine_put : (line : ℕ) (x u : Waiting) (c : Core) → operation_of line c ≡ Some u → x.shard ≡ u.shard → Fine c → Fine (put_operation line x c)
 fine_put line x u c at same h = record {
-  one = h.one;
   single = h.single;
   once = once_set line c.operations x h.once;
   begun = λ l w e. begun l w e (one_or_other l line);
-  home = λ peer. all_weaker (IsAtHome c.operations c.progress.event_line peer) (IsAtHome (set_value (is_at (nat_cmp line)) c.operations x) c.progress.event_line peer)
-      (λ task its number is. ((its number is).0, λ w e. place peer task.line w (its number is).1 e (one_or_other task.line line))) (tasks_of peer c) (h.home peer);
+  home = λ peer. all_weaker (IsAtHome c.operations c.progress.event_line (home_of (shape_of c) peer)) (IsAtHome (set_value (is_at (nat_cmp line)) c.operations x) c.progress.event_line (home_of (shape_of c) peer))
+      (λ task its number is. ((its number is).0, λ w e. place (home_of (shape_of c) peer) task.line w (its number is).1 e (one_or_other task.line line))) (tasks_of peer c) (h.home peer);
 }
   where
     now : List (ℕ × Waiting)
@@ -196,19 +181,18 @@ fine_put line x u c at same h = record {
     begun l w e (inl is) = subst (λ k. k ≤ c.progress.event_line) (sym is) (h.begun line u at)
     begun l w e (inr d) = h.begun l w (sym (set_other nat_cmp number_exact c.operations line l x d) ∙ e)
 
-    place : (peer l : ℕ) (w : Waiting) → ((v : Waiting) → lookup (is_at (nat_cmp l)) c.operations ≡ Some v → v.shard ≡ peer) → lookup (is_at (nat_cmp l)) now ≡ Some w → (l ≡ line) ⊎ (l ≡ line → ⊥) → w.shard ≡ peer
-    place peer l w was e (inl is) =
+    place : (shard l : ℕ) (w : Waiting) → ((v : Waiting) → lookup (is_at (nat_cmp l)) c.operations ≡ Some v → v.shard ≡ shard) → lookup (is_at (nat_cmp l)) now ≡ Some w → (l ≡ line) ⊎ (l ≡ line → ⊥) → w.shard ≡ shard
+    place shard l w was e (inl is) =
         let found : x ≡ w = some_is x w (sym (found_set line c.operations u x at) ∙ subst (λ k. lookup (is_at (nat_cmp k)) now ≡ Some w) is e) in
         ap (λ (y : Waiting). y.shard) (sym found) ∙ same ∙ was u (subst (λ k. lookup (is_at (nat_cmp k)) c.operations ≡ Some u) (sym is) at)
-    place peer l w was e (inr d) = was w (sym (set_other nat_cmp number_exact c.operations line l x d) ∙ e)
+    place shard l w was e (inr d) = was w (sym (set_other nat_cmp number_exact c.operations line l x d) ∙ e)
 
 pub fine_over : (line : ℕ) (c : Core) → Fine c → Fine (end_operation line c)
 fine_over line c h = record {
-  one = h.one;
   single = h.single;
   once = once_remove line c.operations h.once;
   begun = λ l w e. h.begun l w (was l w e (one_or_other l line));
-  home = λ peer. all_weaker (IsAtHome c.operations c.progress.event_line peer) (IsAtHome (remove_entry (is_at (nat_cmp line)) c.operations) c.progress.event_line peer)
+  home = λ peer. all_weaker (IsAtHome c.operations c.progress.event_line (home_of (shape_of c) peer)) (IsAtHome (remove_entry (is_at (nat_cmp line)) c.operations) c.progress.event_line (home_of (shape_of c) peer))
       (λ task its number is. ((its number is).0, λ w e. (its number is).1 w (was task.line w e (one_or_other task.line line)))) (tasks_of peer c) (h.home peer);
 }
   where
@@ -231,11 +215,10 @@ mapped_is f (Some v) w e = (v, refl, some_is (f v) w e)
 
 pub fine_restart : (shard last : ℕ) (c : Core) → Fine c → Fine (restart_at shard last c)
 fine_restart shard last c h = record {
-  one = h.one;
   single = h.single;
   once = once_map (restarted shard last) c.operations h.once;
   begun = λ l w e. let v = was l w e in h.begun l v.0 v.1;
-  home = λ peer. all_weaker (IsAtHome c.operations c.progress.event_line peer) (IsAtHome (map (λ (e : ℕ × Waiting). (e.0, restarted shard last e.1)) c.operations) c.progress.event_line peer)
+  home = λ peer. all_weaker (IsAtHome c.operations c.progress.event_line (home_of (shape_of c) peer)) (IsAtHome (map (λ (e : ℕ × Waiting). (e.0, restarted shard last e.1)) c.operations) c.progress.event_line (home_of (shape_of c) peer))
       (λ task its number is. ((its number is).0, λ w e. (let v = was task.line w e in sym (ap (λ (y : Waiting). y.shard) v.2) ∙ restart_place shard last v.0 ∙ (its number is).1 v.0 v.1))) (tasks_of peer c) (h.home peer);
 }
   where
@@ -257,11 +240,10 @@ fine_read shard number line u c at place h = by (lead_of shard c) refl
 
 pub later_by : (shape : Shape) (groups : List Group) (tasks : List (List Task)) (operations : List (ℕ × Waiting)) (last to : ℕ) → last ≤ to → FineAt shape groups tasks operations last → FineAt shape groups tasks operations to
 later_by shape groups tasks operations last to up h = record {
-  one = h.one;
   single = h.single;
   once = h.once;
   begun = λ l w e. (let low = h.begun l w e in omega (arith, low, up));
-  home = λ peer. all_weaker (IsAtHome operations last peer) (IsAtHome operations to peer)
+  home = λ peer. all_weaker (IsAtHome operations last (home_of shape peer)) (IsAtHome operations to (home_of shape peer))
       (λ task its number is. ((let low = (its number is).0 in omega (arith, low, up)), (its number is).1)) (slice_index_or tasks peer []) (h.home peer);
 }
 
@@ -271,11 +253,10 @@ below_not l line last low high same = absurd (omega (arith, low, high, same))
 pub new_line : (shape : Shape) (groups : List Group) (tasks : List (List Task)) (operations : List (ℕ × Waiting)) (last line : ℕ) (x : Waiting) → last < line → FineAt shape groups tasks operations last
     → FineAt shape groups tasks (insert_entry nat_cmp operations line x) line
 new_line shape groups tasks operations last line x high h = record {
-  one = h.one;
   single = h.single;
   once = once_insert line operations x new h.once;
   begun = λ l w e. begun l w e (one_or_other l line);
-  home = λ peer. all_weaker (IsAtHome operations last peer) (IsAtHome (insert_entry nat_cmp operations line x) line peer)
+  home = λ peer. all_weaker (IsAtHome operations last (home_of shape peer)) (IsAtHome (insert_entry nat_cmp operations line x) line (home_of shape peer))
       (λ task its number is. (
         (let low = (its number is).0 in omega (arith, low, high)),
         λ w e. (its number is).1 w (sym (insert_other nat_cmp number_exact operations line task.line x (below_not task.line line last (its number is).0 high)) ∙ e),

@@ -101,7 +101,7 @@ fine_follow shard c h =
     (λ lead x g. fine_each (joining_peers shard x) (λ peer. change_rejoin peer (follow lead)) x (λ peer y k. k) g) h
 
 fine_done : (peer : ℕ) (c : Core) → Fine c → Fine (without_job peer c)
-fine_done peer c h = fine_queue peer (drop 1 (tasks_of peer c)) c (all_behind (IsAtHome c.operations c.progress.event_line peer) (tasks_of peer c) (h.home peer)) h
+fine_done peer c h = fine_queue peer (drop 1 (tasks_of peer c)) c (all_behind (IsAtHome c.operations c.progress.event_line (home peer c)) (tasks_of peer c) (h.home peer)) h
 
 module _ {s : Core} {e : Option Event} where
   fine_aside : (a b : Core) → Aside s e a b → Fine a → Fine b

@@ -19,6 +19,7 @@ pub mod HomeLemmas
 pub mod HomeWalk
 pub mod ImageLemmas
 pub mod KeptLemmas
+pub mod KeptRunLemmas
 pub mod LineLemmas
 pub mod ListLemmas
 pub mod MomentLemmas

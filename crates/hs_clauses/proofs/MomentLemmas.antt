@@ -7,7 +7,7 @@ use Rattle.std.specs.Prelude.{slice_index_or}
 use Rattle.hs_clauses.proofs.AskedLemmas.{IsAskedOf}
 use Rattle.hs_clauses.proofs.FoundLemmas.{many, opens_good, opens_took}
 use Rattle.hs_clauses.proofs.NoteLemmas.{opens_noted, opens_silent}
-use Rattle.hs_clauses.proofs.RoomLemmas.{front_first, opens}
+use Rattle.hs_standing.proofs.FirstRoomLemmas.{front_first, opens}
 use Rattle.hs_clauses.proofs.TakenLemmas.{peers_are}
 use Rattle.hs_clauses.specs.Shown.{HaveOneList, IsShown}
 use Rattle.hs_cluster.proofs.OpeningMoves.{all_good}

@@ -1,63 +1,57 @@
--- Along a story the store is ready, behind opening and behind its lines.
-use Rattle.std.proofs.Common.{◌≡◌, ◌∙◌, ap, sym, subst, ℕ, ◌<◌, Bool, true, false, List, [], None, refl, length, arith}
+-- Along a story the core is ready, behind opening and behind its lines.
+use Rattle.std.proofs.Common.{◌≡◌, ◌∙◌, ap, sym, subst, ℕ, Bool, true, false, List, [], None, refl, arith}
 use Rattle.std.specs.Prelude.{flat_map}
 use Rattle.hs_answered.specs.Standing.{store_with}
 use Rattle.hs_answered.specs.Telling.{Judging}
-use Rattle.hs_standing.proofs.ReadyLemmas.{core_behind}
-use Rattle.hs_standing.specs.Answered.{AreAnswers, IsAskedAlong, IsReady, judging_of, steps_whole}
-use Rattle.hs_clauses.proofs.AlongLemmas.{along_front, along_rest, rises_front, rises_rest}
+use Rattle.hs_standing.specs.Answered.{AreAnswers, IsAskedAlong, IsReady, judging_of}
+use Rattle.hs_clauses.proofs.AlongLemmas.{along_front, along_rest, known_front, known_rest, rises_front, rises_rest}
 use Rattle.hs_clauses.proofs.FirstLemmas.{opens_first}
 use Rattle.hs_clauses.proofs.LineLemmas.{flat_same, joined, opening_due}
-use Rattle.hs_clauses.proofs.AskedLemmas.{IsAskedOf, run_opens}
-use Rattle.hs_clauses.specs.Asked.{lined, start_of}
+use Rattle.hs_clauses.proofs.RoomLemmas.{keeps_room}
+use Rattle.hs_clauses.specs.Asked.{lined}
+use Rattle.hs_clauses.specs.Shown.{RunsSoundly}
+use Rattle.hs_core_words.specs.Records.{HasRecordRoom}
 use Rattle.hs_core_words.specs.State.{Core}
 use Rattle.hs_events.proofs.RunLemmas.{steps_append}
 use Rattle.hs_events.specs.Course.{steps}
 use Rattle.hs_events.specs.Due.{Events, MomentsRise, is_walk, next_due}
-use Rattle.hs_events.specs.Found.{Found, first_core, opened_list, opens_with}
-use Rattle.hs_events.specs.Sane.{IsFromOne}
-use Rattle.hs_events.specs.Taken.{peer_count}
-use Rattle.hs_events.specs.Whole.{Whole, open_whole}
+use Rattle.hs_events.specs.Found.{Found, first_core, opens_with}
 use Rattle.hs_fold.specs.Runs.Facts.{Catalogue as Folded}
-use Rattle.hs_fold.specs.Runs.Opened.{store_of}
 use Rattle.hs_fold.specs.Shards.Setting.{Setting}
+use Rattle.hs_standing.specs.Copies.{AllKnowTheirCopies}
 use Rattle.hs_standing.specs.Held.{GivesAddresses}
 use Rattle.hs_journal.specs.Events.{client_op}
+use Rattle.hs_known_copies.proofs.KnownLemmas.{soundly_knows}
 use Rattle.hs_laws.specs.Valid.{IsValid}
 use Rattle.hs_standing.specs.Opens.{MayOpen}
 use Rattle.hs_limits.specs.declared.limits.Limits.{Limits}
 use Rattle.hs_standing.specs.Script.{AreLines, IsNext, Script as Lined, all_events as lines_events}
 use Rattle.hs_model.specs.Store.{Store}
 use Rattle.hs_promise.specs.Entry.{entry_store}
-use Rattle.hs_promise.specs.Machine.{Went, opening_is_whole}
+use Rattle.hs_promise.specs.Machine.{opening_is_whole}
 use Rattle.hs_promise.specs.Run.{Ran, Script}
-use Rattle.hs_promise.specs.Story.{Story, last_core}
+use Rattle.hs_promise.specs.Story.{Story, all_events, last_core}
+use Rattle.hs_standing.proofs.FirstRoomLemmas.{first_room}
 use Rattle.hs_standing.proofs.TakenLemmas.{FoldsInMemory, may_open}
 use Rattle.hs_standing.specs.Opening.{opened_folds}
-use Rattle.hs_standing.specs.Run.{IsRunning, RunOpens}
-use Rattle.hs_standing.specs.Start.{Start}
 use Rattle.hs_told.specs.InTurn.{IsInTurn, told_of}
 
 -- the laws below, in one place
 pub record LawsHere : Type 0 where
-  pub opens : (s : Lined) (set : Setting) (found : Found) (cs : List Folded) → set.shape.copies ≡ 1 → ((shard : ℕ) → shard < set.shape.shards → IsFromOne (opened_list set found shard)) → length found.good ≡ peer_count set.shape
-      → client_op (s.commands 0) ≡ None → GivesAddresses s.name → MayOpen (judging_of s set.limits) set.shape (opens_with set found) found.opened cs → IsReady (judging_of s set.limits) (store_with cs []) (open_whole set found)
-  pub opening : (s : Lined) (limits : Limits) (start : Store) (whole : Whole) (done : Bool) (es : Events) (to : ℕ) → GivesAddresses s.name → IsValid start → IsReady (judging_of s limits) start whole
-      → client_op (s.commands 0) ≡ None → whole.core.progress.event_line ≡ 0 → MomentsRise whole.core.moment es to → is_walk next_due done 0 whole.core es ≡ true → IsAskedAlong (judging_of s limits) start whole.core es
-      → IsReady (judging_of s limits) start (steps_whole whole es) × IsNext s.commands (steps_whole whole es).core 1
-  pub lines : (s : Lined) (limits : Limits) (start : Store) (whole : Whole) (line : ℕ) (lines : List Events) (to : ℕ) → GivesAddresses s.name → IsValid start → IsReady (judging_of s limits) start whole
-      → IsNext s.commands whole.core line → MomentsRise whole.core.moment (lines_events lines) to → AreLines s line whole.core lines → IsAskedAlong (judging_of s limits) start whole.core (lines_events lines)
-      → IsReady (judging_of s limits) start (steps_whole whole (lines_events lines))
-  pub answers : (s : Lined) (limits : Limits) (start : Store) (whole : Whole) (line : ℕ) (lines : List Events) (to : ℕ) → GivesAddresses s.name → IsValid start → IsReady (judging_of s limits) start whole
-      → IsNext s.commands whole.core line → MomentsRise whole.core.moment (lines_events lines) to → AreLines s line whole.core lines → IsAskedAlong (judging_of s limits) start whole.core (lines_events lines)
-      → AreAnswers (judging_of s limits) start (told_of (steps whole.core (lines_events lines)))
+  pub opens : (s : Lined) (set : Setting) (found : Found) (cs : List Folded) → client_op (s.commands 0) ≡ None → GivesAddresses s.name → MayOpen (judging_of s set.limits) set.shape (opens_with set found) found.opened cs
+      → IsReady (judging_of s set.limits) (store_with cs []) (first_core set found)
+  pub opening : (s : Lined) (limits : Limits) (start : Store) (core : Core) (done : Bool) (es : Events) (to : ℕ) → GivesAddresses s.name → IsValid start → IsReady (judging_of s limits) start core
+      → client_op (s.commands 0) ≡ None → core.progress.event_line ≡ 0 → MomentsRise core.moment es to → is_walk next_due done 0 core es ≡ true → AllKnowTheirCopies core es → IsAskedAlong (judging_of s limits) start core es
+      → IsReady (judging_of s limits) start (steps core es) × IsNext s.commands (steps core es) 1
+  pub lines : (s : Lined) (limits : Limits) (start : Store) (core : Core) (line : ℕ) (lines : List Events) (to : ℕ) → GivesAddresses s.name → IsValid start → IsReady (judging_of s limits) start core
+      → IsNext s.commands core line → MomentsRise core.moment (lines_events lines) to → AreLines s line core lines → AllKnowTheirCopies core (lines_events lines) → IsAskedAlong (judging_of s limits) start core (lines_events lines)
+      → IsReady (judging_of s limits) start (steps core (lines_events lines))
+  pub answers : (s : Lined) (limits : Limits) (start : Store) (core : Core) (line : ℕ) (lines : List Events) (to : ℕ) → GivesAddresses s.name → IsValid start → IsReady (judging_of s limits) start core
+      → IsNext s.commands core line → MomentsRise core.moment (lines_events lines) to → AreLines s line core lines → AllKnowTheirCopies core (lines_events lines) → IsAskedAlong (judging_of s limits) start core (lines_events lines)
+      → AreAnswers (judging_of s limits) start (told_of (steps core (lines_events lines)))
   pub memory : FoldsInMemory
-  pub runs : (start : Start) (found : Found) → RunOpens start found → IsRunning start (open_whole start.set found)
 
-no_sessions : (cs : List Folded) → store_of cs ≡ store_with cs []
-no_sessions cs = refl
-
-module _ (laws : LawsHere) (S : Script) (r : Ran) (story : Story) (went : Went S r story) (asked : IsAskedOf S r story) where
+module _ (laws : LawsHere) (S : Script) (r : Ran) (story : Story) (run : RunsSoundly S r story) where
   abbrev by : Judging
   by = judging_of (lined S r) S.set.limits
 
@@ -67,21 +61,33 @@ module _ (laws : LawsHere) (S : Script) (r : Ran) (story : Story) (went : Went S
   abbrev line_events : Events
   line_events = flat_map (λ (line : Events). line) story.lines
 
-  -- the whole behind opening
-  abbrev mid : Whole
-  mid = steps_whole (open_whole S.set story.found) story.opening
+  -- the core behind opening
+  abbrev mid : Core
+  mid = steps (first_core S.set story.found) story.opening
 
-  opens : RunOpens (start_of S r) story.found
-  opens = run_opens S r story went asked
+  entry_is : store_with (opened_folds S.set story.found) [] ≡ entry_store S r
+  entry_is = sym run.begins.entry
 
   valid : IsValid (entry_store S r)
-  valid = (laws.runs (start_of S r) story.found opens).valid
+  valid = subst (λ (s : Store). IsValid s) entry_is run.begins.soundly.sound.sound.valid
 
-  ready_first : IsReady by (entry_store S r) (open_whole S.set story.found)
+  ready_first : IsReady by (entry_store S r) (first_core S.set story.found)
   ready_first =
-      subst (λ (s : Store). IsReady by s (open_whole S.set story.found)) (sym (opens.entry ∙ no_sessions (opened_folds S.set story.found)))
-      (laws.opens (lined S r) S.set story.found (opened_folds S.set story.found) asked.on.one asked.lists went.found.goods asked.on.nobody asked.on.names
-      (may_open laws.memory (start_of S r) story.found opens.well opens.shape opens.addressed))
+      subst (λ (s : Store). IsReady by s (first_core S.set story.found)) entry_is
+      (laws.opens (lined S r) S.set story.found (opened_folds S.set story.found) run.begins.nobody run.begins.soundly.names (may_open laws.memory S.set story.found run.begins.soundly S.commands))
+
+  -- ---- what is asked along its events
+
+  few : (first_core S.set story.found).ended ≡ None → HasRecordRoom (first_core S.set story.found)
+  few going = first_room S.set story.found laws.memory run.begins.soundly.sound
+
+  known : AllKnowTheirCopies (first_core S.set story.found) (all_events story)
+  known = soundly_knows S.set story.found run.begins.soundly (all_events story)
+
+  along : IsAskedAlong (judging_of (lined S r) S.set.limits) (entry_store S r) (first_core S.set story.found) (all_events story)
+  along = record { room = keeps_room first (all_events story) few run.rooms; blocks = run.blocks }
+
+  -- ---- as it opens
 
   moment_is : first.moment ≡ story.found.opened
   moment_is = (opens_first S.set.shape S.set.limits (opens_with S.set story.found) story.found.opened).moment
@@ -92,49 +98,42 @@ module _ (laws : LawsHere) (S : Script) (r : Ran) (story : Story) (went : Went S
   -- ---- opening
 
   opening_rises : MomentsRise first.moment story.opening r.new.moment
-  opening_rises = subst (λ (m : ℕ). MomentsRise m story.opening r.new.moment) (sym moment_is) (rises_front story.found.opened r.new.moment story.opening line_events went.rises)
+  opening_rises = subst (λ (m : ℕ). MomentsRise m story.opening r.new.moment) (sym moment_is) (rises_front story.found.opened r.new.moment story.opening line_events run.went.rises)
 
   opening_walks : is_walk next_due false 0 first story.opening ≡ true
-  opening_walks = opening_due (opening_is_whole r story.lines) first story.opening went.opening
+  opening_walks = opening_due (opening_is_whole r story.lines) first story.opening run.went.opening
 
-  ready_mid : IsReady by (entry_store S r) mid × IsNext S.commands mid.core 1
-  ready_mid = laws.opening (lined S r) S.set.limits (entry_store S r) (open_whole S.set story.found) false story.opening r.new.moment asked.on.names valid ready_first asked.on.nobody no_line opening_rises opening_walks
-      (along_front by (entry_store S r) first story.opening line_events asked.along)
+  ready_mid : IsReady by (entry_store S r) mid × IsNext S.commands mid 1
+  ready_mid = laws.opening (lined S r) S.set.limits (entry_store S r) first false story.opening r.new.moment run.begins.soundly.names valid ready_first run.begins.nobody no_line opening_rises opening_walks (known_front first story.opening line_events known)
+      (along_front by (entry_store S r) first story.opening line_events along)
 
   -- ---- lines
 
-  mid_is : mid.core ≡ steps first story.opening
-  mid_is = core_behind (open_whole S.set story.found) story.opening
+  mid_lines : AreLines (lined S r) 1 mid story.lines
+  mid_lines = joined S r 1 mid story.lines run.went.lines
 
-  mid_lines : AreLines (lined S r) 1 mid.core story.lines
-  mid_lines = subst (λ (c : Core). AreLines (lined S r) 1 c story.lines) (sym mid_is) (joined S r 1 (steps first story.opening) story.lines went.lines)
-
-  mid_rises : MomentsRise mid.core.moment (lines_events story.lines) r.new.moment
+  mid_rises : MomentsRise (steps (first_core S.set story.found) story.opening).moment (lines_events story.lines) r.new.moment
   mid_rises =
-      subst (λ (c : Core). MomentsRise c.moment (lines_events story.lines) r.new.moment) (sym mid_is)
-      (subst (λ (es : Events). MomentsRise (steps first story.opening).moment es r.new.moment) (flat_same story.lines)
-      (rises_rest first story.found.opened r.new.moment story.opening line_events (let is = moment_is in omega (arith, is)) went.rises))
+      subst (λ (es : Events). MomentsRise mid.moment es r.new.moment) (flat_same story.lines)
+      (rises_rest first story.found.opened r.new.moment story.opening line_events (let is = moment_is in omega (arith, is)) run.went.rises)
 
-  mid_along : IsAskedAlong by (entry_store S r) mid.core (lines_events story.lines)
-  mid_along =
-      subst (λ (c : Core). IsAskedAlong by (entry_store S r) c (lines_events story.lines)) (sym mid_is)
-      (subst (λ (es : Events). IsAskedAlong by (entry_store S r) (steps first story.opening) es) (flat_same story.lines)
-      (along_rest by (entry_store S r) first story.opening line_events asked.along))
+  mid_along : IsAskedAlong by (entry_store S r) mid (lines_events story.lines)
+  mid_along = subst (λ (es : Events). IsAskedAlong by (entry_store S r) mid es) (flat_same story.lines) (along_rest by (entry_store S r) first story.opening line_events along)
+
+  mid_known : AllKnowTheirCopies mid (lines_events story.lines)
+  mid_known = subst (λ (es : Events). AllKnowTheirCopies mid es) (flat_same story.lines) (known_rest first story.opening line_events known)
 
   -- ---- behind them
 
-  last_is : steps mid.core (lines_events story.lines) ≡ last_core S story
-  last_is =
-      ap (λ (c : Core). steps c (lines_events story.lines)) mid_is
-      ∙ ap (λ (es : Events). steps (steps first story.opening) es) (sym (flat_same story.lines))
-      ∙ sym (steps_append first story.opening line_events)
+  last_is : steps mid (lines_events story.lines) ≡ last_core S story
+  last_is = ap (λ (es : Events). steps mid es) (sym (flat_same story.lines)) ∙ sym (steps_append first story.opening line_events)
 
   pub last_answers : AreAnswers by (entry_store S r) (told_of (last_core S story))
   last_answers =
       subst (λ (c : Core). AreAnswers by (entry_store S r) (told_of c)) last_is
-      (laws.answers (lined S r) S.set.limits (entry_store S r) mid 1 story.lines r.new.moment asked.on.names valid ready_mid.0 ready_mid.1 mid_rises mid_lines mid_along)
+      (laws.answers (lined S r) S.set.limits (entry_store S r) mid 1 story.lines r.new.moment run.begins.soundly.names valid ready_mid.0 ready_mid.1 mid_rises mid_lines mid_known mid_along)
 
   pub last_turn : IsInTurn S.commands (last_core S story)
   last_turn =
-      subst (λ (c : Core). IsInTurn S.commands c) (core_behind mid (lines_events story.lines) ∙ last_is)
-      (laws.lines (lined S r) S.set.limits (entry_store S r) mid 1 story.lines r.new.moment asked.on.names valid ready_mid.0 ready_mid.1 mid_rises mid_lines mid_along).turn
+      subst (λ (c : Core). IsInTurn S.commands c) last_is
+      (laws.lines (lined S r) S.set.limits (entry_store S r) mid 1 story.lines r.new.moment run.begins.soundly.names valid ready_mid.0 ready_mid.1 mid_rises mid_lines mid_known mid_along).turn

@@ -12,7 +12,7 @@ use Rattle.hs_cluster.specs.Kept.{AreStored, AreTold}
 use Rattle.hs_awaiting.specs.declared.waiting.Waiting.{Waiting}
 use Rattle.hs_core_words.specs.declared.event.Event.{Event}
 use Rattle.hs_core_words.specs.declared.task.Task.{Task}
-use Rattle.hs_core_words.specs.Looking.{catalogue_of, group_of}
+use Rattle.hs_core_words.specs.Looking.{catalogue_of, group_of, shape_of}
 use Rattle.hs_core_words.specs.Opening.{Taken, good_copies, new_core, taken_group}
 use Rattle.hs_core_words.specs.Seeing.{pointers_for}
 use Rattle.hs_core_words.specs.State.{Core}
@@ -41,6 +41,7 @@ use Rattle.hs_limits.specs.declared.shape.Shape.{Shape}
 use Rattle.hs_limits.specs.Shape.{peer_of}
 use Rattle.hs_standing.proofs.LinesStepLemmas.{step_ended}
 use Rattle.hs_model.specs.Store.{Store}
+use Rattle.hs_members.specs.Members.{home_of}
 use Rattle.hs_moments.proofs.AloneStepLemmas.{nowhere}
 use Rattle.hs_moments.specs.Machine.{runs}
 use Rattle.hs_moments.specs.WholeMachine.{whole_machine}
@@ -61,7 +62,7 @@ use Rattle.hs_standing.proofs.KeepLemmas.{Keeps}
 use Rattle.hs_standing.proofs.MomentLemmas.{event_stands}
 use Rattle.hs_standing.proofs.OpeningLemmas.{opened_stands}
 use Rattle.hs_standing.proofs.RunLemmas.{LawsBelow, run_opens, run_suffices}
-use Rattle.hs_standing.proofs.TakenLemmas.{may_open}
+use Rattle.hs_standing.proofs.TakenLemmas.{may_open, runs_soundly}
 use Rattle.hs_standing.specs.Opening.{opened_folds}
 use Rattle.hs_standing.specs.Run.{RunOpens, RunStands}
 use Rattle.hs_standing.specs.Standing.{CoreStands, judging_of}
@@ -154,11 +155,11 @@ first_stands below start found o valid =
     start.set.shape start.set.limits (opens_with start.set found) found.opened
     (record {
       stands = subst (λ (s : Store). IsStanding (judging_of start) s (new_core start.set.shape start.set.limits (opens_with start.set found) found.opened) (opened_folds start.set found)) (sym (o.entry ∙ no_sessions (opened_folds start.set found)))
-          (standing_new (judging_of start) start.set.shape (opens_with start.set found) found.opened (opened_folds start.set found) (may_open below.memory start found o.well o.shape o.addressed));
+          (standing_new (judging_of start) start.set.shape (opens_with start.set found) found.opened (opened_folds start.set found) (may_open below.memory start.set found (runs_soundly start found o) start.commands));
       awaiting = none_awaiting (new_core start.set.shape start.set.limits (opens_with start.set found) found.opened) (opened_folds start.set found) refl;
     })
 
--- queues are empty, and each shard has one copy
+-- queues are empty, and no shard has more copies than it may
 abbrev nothing_queued : List Task
 nothing_queued = []
 
@@ -173,25 +174,24 @@ taken_short zero (x ∷ xs) = omega arith
 taken_short (suc n) [] = omega arith
 taken_short (suc n) (x ∷ xs) = let rest = taken_short n xs in omega (arith, rest)
 
-few_copies : (shape : Shape) (taken : Taken) (shards : List ℕ) (g : ℕ) (none : Group) → shape.copies ≡ 1 → length none.copies ≤ 1 → length (slice_index_or (map (taken_group shape taken) shards) g none).copies ≤ 1
-few_copies shape taken [] g none one few = few
-few_copies shape taken (s ∷ shards) zero none one few =
+few_copies : (shape : Shape) (taken : Taken) (shards : List ℕ) (g : ℕ) (none : Group) → length none.copies ≤ shape.copies → length (slice_index_or (map (taken_group shape taken) shards) g none).copies ≤ shape.copies
+few_copies shape taken [] g none few = few
+few_copies shape taken (s ∷ shards) zero none few =
     let long : length (taken_group shape taken s).copies ≡ length (good_copies shape taken.good s) =
     length-map (good_copies shape taken.good s) (λ (b : Bool). if b then whole_copy (slice_index taken.views s) (slice_index taken.lengths s) else no_copy) in
     let short : length (good_copies shape taken.good s) ≤ shape.copies = taken_short shape.copies (drop (peer_of shape s 0) taken.good) in
-    omega (arith, one, long, short)
-few_copies shape taken (s ∷ shards) (suc g) none one few = few_copies shape taken shards g none one few
+    omega (arith, long, short)
+few_copies shape taken (s ∷ shards) (suc g) none few = few_copies shape taken shards g none few
 
 lookup_none : (w : Waiting) → None ≡ Some w → ⊥
 lookup_none w e = cc e
 
-new_fine : (shape : Shape) (limits : Limits) (taken : Taken) (moment : ℕ) → shape.copies ≡ 1 → Fine (new_core shape limits taken moment)
-new_fine shape limits taken moment one = record {
-  one = one;
-  single = λ g. few_copies shape taken (range_with_len 0 shape.shards) g (new_group shape g 0 0 []) one (omega arith);
+new_fine : (shape : Shape) (limits : Limits) (taken : Taken) (moment : ℕ) → Fine (new_core shape limits taken moment)
+new_fine shape limits taken moment = record {
+  single = λ g. few_copies shape taken (range_with_len 0 shape.shards) g (new_group shape g 0 0 []) (omega arith);
   once = tt;
   begun = λ line w e. absurd (lookup_none w e);
-  home = λ peer. subst (λ (ts : List Task). AllByRecursion (IsAtHome [] 0 peer) ts) (sym (none_queued (shape.shards * shape.copies) peer)) tt;
+  home = λ peer. subst (λ (ts : List Task). AllByRecursion (IsAtHome [] 0 (home_of shape peer)) ts) (sym (none_queued (shape.shards * shape.copies) peer)) tt;
 }
 
 at_home : (c : Core) → Fine c → AreAtHome c
@@ -205,22 +205,21 @@ reads_open below start found o =
       valid = valid;
       stands = opened_stands start found o.well (λ core cs. ReadStands start core cs) (reads_suffice start) below.opens (first_stands below start found o valid);
       home = at_home (first_core start.set found)
-          (fine_opens (new_core start.set.shape start.set.limits (opens_with start.set found) found.opened) (new_fine start.set.shape start.set.limits (opens_with start.set found) found.opened o.well.one));
+          (fine_opens (new_core start.set.shape start.set.limits (opens_with start.set found) found.opened) (new_fine start.set.shape start.set.limits (opens_with start.set found) found.opened));
     }
 
 -- ---- behind an event
 
 fine_of : (start : Start) (c : Whole) → IsReading start c → Fine c.core
 fine_of start c r = record {
-  one = r.stands.whole.sane.alone.copies;
   single = λ g. single g (cases_lt g c.core.members.shape.shards);
   once = r.stands.holds.stands.orderly.once;
   begun = r.home.begun;
   home = r.home.jobs;
 }
   where
-    single : (g : ℕ) → (g < c.core.members.shape.shards) ⊎ (c.core.members.shape.shards ≤ g) → length (group_of g c.core).copies ≤ 1
-    single g (inl low) = let n = ap (λ xs. length xs) (r.stands.whole.sane.alone.each g low).copies in omega (arith, n)
+    single : (g : ℕ) → (g < c.core.members.shape.shards) ⊎ (c.core.members.shape.shards ≤ g) → length (group_of g c.core).copies ≤ (shape_of c.core).copies
+    single g (inl low) = let n = ap (λ xs. length xs) (r.stands.whole.sane.alone.each g low).copies in let one = r.stands.whole.sane.alone.copies in omega (arith, n, one)
     single g (inr high) = let n = ap (λ (x : Group). length x.copies) (nowhere c.core g r.stands.whole.sane.alone high) in omega (arith, n)
 
 module _ (below : LawsBelow) (start : Start) where

@@ -2,12 +2,12 @@
 use Rattle.std.proofs.Common.{◌≡◌, ◌∙◌, ◌⊎◌, inl, inr, ap, sym, subst, ℕ, ◌+◌, ◌*◌, ◌<◌, ◌==◌, ◌&&◌, Bool, true, false, List, [], ◌∷◌, refl, length, arith, if◌then◌else◌}
 use Rattle.std.proofs.lemmas.List.Elements.{Contains-append_right}
 use Rattle.std.specs.Prelude.{Contains, IsSome, filter}
-use Rattle.hs_clauses.proofs.AlongLemmas.{all_keep}
 use Rattle.hs_clauses.proofs.AskedLemmas.{IsAskedOf, run_opens}
-use Rattle.hs_clauses.proofs.ComingLemmas.{ComingLaws, addressed_all, come_all, new_all}
+use Rattle.hs_clauses.proofs.ComingLemmas.{ComingLaws}
 use Rattle.hs_clauses.proofs.CourseLemmas.{some_course}
 use Rattle.hs_clauses.proofs.FitLemmas.{fits}
 use Rattle.hs_clauses.proofs.FoundLemmas.{opens_begins}
+use Rattle.hs_clauses.proofs.KeptRunLemmas.{all_kept}
 use Rattle.hs_clauses.proofs.ListLemmas.{none_aside}
 use Rattle.hs_clauses.proofs.MomentLemmas.{at_moment, good, one_list, state_then}
 use Rattle.hs_clauses.specs.Asked.{start_of}
@@ -43,6 +43,7 @@ use Rattle.hs_standing.specs.Run.{IsRunning, MayRun, RunOpens}
 use Rattle.hs_standing.specs.Standing.{AllMayKeep, AreBegun, IsStateAt}
 use Rattle.hs_standing.proofs.ImageLemmas.{good_image_is_log}
 use Rattle.hs_standing.proofs.SaneLemmas.{good_counts, good_counts_after}
+use Rattle.hs_standing.proofs.TakenLemmas.{FoldsInMemory}
 use Rattle.hs_standing.specs.Reopens.{Reopens}
 use Rattle.hs_standing.specs.Stands.{GoodPeersCount}
 use Rattle.hs_standing.specs.Start.{Start}
@@ -50,6 +51,7 @@ use Rattle.hs_standing.specs.Start.{Start}
 -- what hs_standing says of runs, with what is said of events
 pub record StopLaws : Type 0 where
   pub coming : ComingLaws
+  pub memory : FoldsInMemory
   pub runs : (start : Start) (found : Found) → RunOpens start found → IsRunning start (open_whole start.set found)
   pub first : (start : Start) (stop : Stop) (found : Found) → RunOpens start found → AreBegun start stop (first_core start.set found)
   pub reopens : (start : Start) (stop : Stop) (c : Whole) (events : Events) (journal : List JournalEntry) (images : List Image) → IsShape start.set.shape → start.set.shape.copies ≡ 1 → length stop.disks ≡ start.set.shape.shards
@@ -69,12 +71,6 @@ some_shard shards (inr (inr (inr e))) = omega (arith, e)
 runs_count : (c : Whole) (es : Events) → GoodPeersCount whole_machine c → GoodPeersCount whole_machine (runs whole_machine c es)
 runs_count c [] h = h
 runs_count c (e ∷ es) h = runs_count (whole_machine.step c e.0 e.1) es (good_counts_after c e.0 e.1)
-
--- its events keep it standing
-pub all_kept : ComingLaws → (S : Script) (r : Ran) (story : Story) → Went S r story → IsAskedOf S r story → AllMayKeep (start_of S r) (MayRun (start_of S r)) (first_core S.set story.found) (all_events story)
-all_kept laws S r story went asked =
-    all_keep (start_of S r) (first_core S.set story.found) (all_events story)
-    (come_all laws S r story went asked.on.nobody) (new_all laws S r story went asked.on.nobody) (addressed_all laws S r story went asked.on.nobody) asked.along asked.last
 
 module _ (laws : StopLaws) (S : Script) (r : Ran) (story : Story) (went : Went S r story) (asked : IsAskedOf S r story) where
   abbrev first : Core
@@ -137,7 +133,7 @@ module _ (laws : StopLaws) (S : Script) (r : Ran) (story : Story) (went : Went S
     reopen_at m d images good =
         fits S r m images (λ line begun. subst (λ (course : List CourseItem). IsBegun course line m) counted_is begun)
         (laws.reopens (start_of S r) (stop_at S r m) (open_whole S.set story.found) (all_events story) r.journal images asked.on.shape asked.on.one asked.on.left
-        (laws.runs (start_of S r) story.found opens) (laws.first (start_of S r) (stop_at S r m) story.found opens) (all_kept laws.coming S r story went asked) inside (at_each m d) good)
+        (laws.runs (start_of S r) story.found opens) (laws.first (start_of S r) (stop_at S r m) story.found opens) (all_kept laws.coming laws.memory S r story asked.runs) inside (at_each m d) good)
 
     pub may_stop : Stops S (entry_store S r) r
     may_stop = record { logs = log_of; reopens = reopen_at }

@@ -47,6 +47,7 @@ use Rattle.hs_limits.specs.declared.address.Held.{Held}
 use Rattle.hs_limits.specs.declared.shape.Shape.{Shape}
 use Rattle.hs_limits.specs.Reading.{read_block}
 use Rattle.hs_limits.specs.Shape.{shard_of}
+use Rattle.hs_members.specs.Members.{home_of}
 use Rattle.hs_model.proofs.Members.{Member, contains_from_member, member_from_contains}
 use Rattle.hs_model.specs.declared.op.Op.{Op}
 use Rattle.hs_model.specs.declared.op.Op.TheVariants as op
@@ -56,6 +57,7 @@ use Rattle.hs_model.specs.declared.store.StoredBlock.{StoredBlock}
 use Rattle.hs_model.specs.Judge.{address_of, nothing}
 use Rattle.hs_model.specs.Refusals.{first, refused_when, stale_handle, stale_in}
 use Rattle.hs_model.specs.Store.{Session, Store, block_at, block_of, held_in}
+use Rattle.hs_moments.proofs.AloneEventLemmas.{home_here}
 use Rattle.hs_moments.proofs.AloneReportLemmas.{first_here, first_past}
 use Rattle.hs_moments.proofs.WorkLemmas.{floor_alone, reach_sane}
 use Rattle.hs_moments.specs.WholeMachine.{whole_machine}
@@ -239,9 +241,9 @@ module _ (start : Start) (c : Whole) (r : IsReading start c) where
     home : w.shard ≡ peer
     home =
         let first : slice_get (tasks_of peer core) 0 ≡ Some (record { job = job.Read number; line = read.line }) = sym (first_here core peer alone low) ∙ read.first in
-        let its : IsAtHome core.operations core.progress.event_line peer (record { job = job.Read number; line = read.line }) =
-        first_fits (IsAtHome core.operations core.progress.event_line peer) (tasks_of peer core) (record { job = job.Read number; line = read.line }) (r.home.jobs peer) first in
-        (its number refl).1 w read.at
+        let its : IsAtHome core.operations core.progress.event_line (home_of core.members.shape peer) (record { job = job.Read number; line = read.line }) =
+        first_fits (IsAtHome core.operations core.progress.event_line (home_of core.members.shape peer)) (tasks_of peer core) (record { job = job.Read number; line = read.line }) (r.home.jobs peer) first in
+        (its number refl).1 w read.at ∙ home_here core peer alone.copies
 
     waits : IsAwaiting seats cs number w
     waits = r.stands.holds.awaiting read.line number w read.at read.waits

@@ -1,5 +1,6 @@
--- A run on disks that tell their contents, with one copy of each shard, and what is shown of it.
+-- A run over sound lists; and one on disks that tell their contents, with one copy of each shard, and what is shown of it.
 use Rattle.std.specs.Prelude.{IsSome, None, Option, Some, length, true, ℕ, ◌<◌, ◌≡◌, ◌≤◌}
+use Rattle.hs_clauses.specs.Asked.{start_of}
 use Rattle.hs_cluster.specs.Kept.{AreTold}
 use Rattle.hs_cluster.specs.Rooms.{HaveRecordRoom}
 use Rattle.hs_events.specs.Course.{happened}
@@ -18,11 +19,15 @@ use Rattle.hs_peerlog.specs.Images.{LeavesOnly}
 use Rattle.hs_ports.specs.Moments.{disk_at}
 use Rattle.hs_ports.specs.Objects.{IsDuring}
 use Rattle.hs_promise.specs.Ending.{ending_of}
+use Rattle.hs_promise.specs.Entry.{entry_store}
 use Rattle.hs_promise.specs.Found.{IsReadAs}
 use Rattle.hs_promise.specs.Machine.{NeverOpened, Went}
 use Rattle.hs_promise.specs.Run.{Ran, Script}
 use Rattle.hs_promise.specs.Story.{Story, all_events}
 use Rattle.hs_side.specs.Current.{list_in}
+use Rattle.hs_standing.specs.Answered.{TellTheirBlocks}
+use Rattle.hs_standing.specs.Run.{RunBegins}
+use Rattle.hs_standing.specs.Standing.{judging_of}
 
 -- ---- disks
 
@@ -42,6 +47,14 @@ abbrev pub KeepLists : Script → Ran → Type 0
 KeepLists S r = ((peer : ℕ) → (disk_at r.old.disks peer).last ≤ r.old.moment) → (peer : ℕ) → peer < S.set.shape.shards → KeepsList r peer
 
 -- ---- a run
+
+-- for any number of copies it went as a story says, and begins over sound lists, at the store at entry; a core that goes on has room for root records, and its
+-- reports tell the bytes of their blocks
+pub record RunsSoundly (S : Script) (r : Ran) (story : Story) : Type 0 where
+  pub went : Went S r story
+  pub begins : RunBegins (start_of S r) story.found
+  pub rooms : HaveRecordRoom (first_core S.set story.found) (all_events story)
+  pub blocks : TellTheirBlocks (judging_of (start_of S r)) (entry_store S r) (first_core S.set story.found) (all_events story)
 
 -- it went as a story says, whose logs are those of its disks; a core that goes on has room for root records, and its reports tell of blocks what the lists have;
 -- and of the lists at each moment, whether the core goes on behind its opening or has ended with it

@@ -1,7 +1,7 @@
 //! A run that goes on behind its opening stands.
 ghost use Rattle.std.specs.Prelude.{◌≡◌, None};
 ghost use Rattle.hs_clauses.specs.Asked.{start_of};
-ghost use Rattle.hs_clauses.specs.Shown.{IsShown, OnDisks};
+ghost use Rattle.hs_clauses.specs.Shown.{IsShown, OnDisks, RunsSoundly};
 ghost use Rattle.hs_events.specs.Found.{first_core};
 ghost use Rattle.hs_promise.specs.Entry.{IsSoundAtEntry};
 ghost use Rattle.hs_promise.specs.Run.{Ran, Script};
@@ -15,7 +15,9 @@ use hs_standing::{a_line_asks_as_its_command, a_scripts_events_may_come, a_scrip
 use hs_told::answers_stay_in_order;
 
 /// A run on sound disks, with one copy of each shard, whose core goes on behind its opening, opens at
-/// the store at entry (`opens`), and each of its events may come and leaves it standing (`keeps`).
+/// the store at entry (`opens`), and each of its events may come and leaves it standing (`keeps`): it
+/// begins over sound lists, and its reports tell the bytes of their blocks (`soundly`). For any number of
+/// copies each event of such a run may come and leaves it standing (`events`).
 pub fn a_run_stands()
     ensures opens { (S : Script) (r : Ran) (story : Story)
         → OnDisks S r → IsShown S r story → IsSoundAtEntry S r
@@ -24,6 +26,13 @@ pub fn a_run_stands()
     ensures keeps { (S : Script) (r : Ran) (story : Story)
         → OnDisks S r → IsShown S r story → IsSoundAtEntry S r
         → (first_core S.set story.found).ended ≡ None →
+        AllMayKeep (start_of S r) (MayRun (start_of S r)) (first_core S.set story.found)
+        (all_events story) }
+    ensures soundly { (S : Script) (r : Ran) (story : Story)
+        → OnDisks S r → IsShown S r story → IsSoundAtEntry S r
+        → (first_core S.set story.found).ended ≡ None →
+        RunsSoundly S r story }
+    ensures events { (S : Script) (r : Ran) (story : Story) → RunsSoundly S r story →
         AllMayKeep (start_of S r) (MayRun (start_of S r)) (first_core S.set story.found)
         (all_events story) }
 {

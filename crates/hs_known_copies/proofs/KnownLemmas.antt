@@ -1,5 +1,5 @@
 -- A core in step has its seats, and knows its copies; so it is behind each event.
-use Rattle.std.proofs.Common.{◌≡◌, ◌⊎◌, ◌∙◌, ap, sym, refl, inl, inr, arith, ℕ, ◌*◌, ◌/◌, ◌<◌, ◌≤◌, ◌==◌, eqb-true, Bool, true, false, List, [], ◌∷◌, Option, Some, None, is_none}
+use Rattle.std.proofs.Common.{◌≡◌, ◌⊎◌, ◌∙◌, ap, sym, refl, inl, inr, arith, ℕ, ◌*◌, ◌/◌, ◌<◌, ◌≤◌, ◌==◌, eqb-true, Bool, true, false, List, [], ◌∷◌, Option, Some, None}
 use Rattle.std.proofs.lemmas.Bool.{cases_lt}
 use Rattle.std.proofs.lemmas.List.{get_or_past}
 use Rattle.std.proofs.Math.Nat.{div-mul-le_self}
@@ -12,7 +12,6 @@ use Rattle.hs_anatomy.proofs.StepLemmas.{step_is}
 use Rattle.hs_anatomy.proofs.StrokeLemmas.{strokes_of}
 use Rattle.hs_anatomy.specs.Acts.{begun}
 use Rattle.hs_anatomy.specs.Sizes.{Sizes}
-use Rattle.hs_awaiting.specs.Words.{change_if}
 use Rattle.hs_copies.proofs.StandLemmas.{HasLead, and_left, and_right, length_is, stands_lead}
 use Rattle.hs_copies.specs.Lists.{IsAmong, Item}
 use Rattle.hs_copies.specs.Machine.{Copies, after_events}
@@ -32,15 +31,16 @@ use Rattle.hs_core_words.specs.declared.event.Event.{Event}
 use Rattle.hs_core_words.specs.declared.task.Task.{Task}
 use Rattle.hs_core_words.specs.Looking.{first_job, first_task, group_of, home, shape_of, status_of, tasks_of}
 use Rattle.hs_core_words.specs.Opening.{Taken, begin_views, new_core, note_down, open_core}
-use Rattle.hs_core_words.specs.Records.{HasRecordRoom}
 use Rattle.hs_core_words.specs.State.{Core}
-use Rattle.hs_core_words.specs.Step.{do_event, end_event, run_event, step}
+use Rattle.hs_core_words.specs.Step.{do_event, end_event, step}
 use Rattle.hs_desk.specs.declared.fault.CoreFault.{CoreFault}
 use Rattle.hs_desk.specs.declared.job.Job.{Job}
 use Rattle.hs_desk.specs.declared.job.Job.TheVariants as job
 use Rattle.hs_entry.specs.declared.entry.Entry.{Entry}
 use Rattle.hs_events.specs.Due.{Events}
-use Rattle.hs_known_copies.specs.Known.{AllKnowTheirCopies, AreInStep, AreTakenLogs}
+use Rattle.hs_events.specs.Found.{Found, first_core}
+use Rattle.hs_fold.specs.Shards.Setting.{Setting}
+use Rattle.hs_known_copies.specs.Known.{AllComeWithRoom, AllKnowTheirCopies, AreInStep, AreTakenLogs}
 use Rattle.hs_limits.specs.declared.limits.Limits.{Limits}
 use Rattle.hs_limits.specs.declared.limits.PeerStatus.TheVariants.{Down, Good, Joining}
 use Rattle.hs_limits.specs.declared.shape.Shape.{Shape}
@@ -48,7 +48,12 @@ use Rattle.hs_members.specs.Members.{IsShard, Members, has_good, is_good_status,
 use Rattle.hs_post.specs.declared.message.Message.TheVariants as message
 use Rattle.hs_post.specs.Pool.{message_at}
 use Rattle.hs_replica.specs.Group.{Group, IsHome, copy_of, hears, last_number, new_group}
+use Rattle.hs_standing.proofs.KnownAlongLemmas.{knows_ended}
+use Rattle.hs_standing.proofs.OpeningLemmas.{opened_rises}
 use Rattle.hs_standing.specs.Copies.{AllComeOn, IsSeated, IsWithinLists, KnowsCopies, KnowsItsCopies, is_of_joining}
+use Rattle.hs_standing.specs.Opening.{OpensSoundly}
+use Rattle.hs_whole_copies.proofs.OpenLemmas.{opens_whole}
+use Rattle.hs_whole_copies.specs.Opening.{MayOpenWhole}
 
 any_among : (test : ℕ → Bool) (q : ℕ) (qs : List ℕ) → test q ≡ true → IsAmong q qs → list_any test qs ≡ true
 any_among test q [] e k = absurd k
@@ -206,15 +211,6 @@ module _ (e : Event) (at : ℕ) (c : Core) (machines : ℕ → Copies Entry) (w 
 
 -- ---- along events
 
--- a core that has ended stays so
-ended_on : (e : Event) (at : ℕ) (c : Core) (f : CoreFault) → c.ended ≡ Some f → (step e at c).ended ≡ Some f
-ended_on e at c f i = ap (λ (y : Core). y.ended) (ap (λ o. change_if (is_none o) (run_event e at) c) i) ∙ i
-
-knows_ended : (c : Core) (es : Events) (f : CoreFault) → c.ended ≡ Some f → AllKnowTheirCopies c es
-knows_ended c [] f i = tt
-knows_ended c (e ∷ es) f i =
-    ((λ on. let wrong : None ≡ Some f = sym on ∙ i in absurd (cc wrong)), knows_ended (step e.0 e.1 c) es f (ended_on e.0 e.1 c f i))
-
 pub knows_along : (c : Core) (es : Events) (machines : ℕ → Copies Entry) → AreInStep c machines → AllKnowTheirCopies c es
 knows_along c [] machines w = tt
 knows_along c (e ∷ es) machines w =
@@ -225,11 +221,7 @@ knows_along c (e ∷ es) machines w =
     rest h (Some f) i = knows_ended (step e.0 e.1 c) es f i
 
 -- so events come on that may come, where the core has few root records as long as it goes on
-abbrev pub AllMayCome : (Event → Core → Type 0) → Core → Events → Type 0
-AllMayCome May core [] = Unit {0}
-AllMayCome May core (e ∷ es) = (core.ended ≡ None → HasRecordRoom core × May e.0 core) × AllMayCome May (step e.0 e.1 core) es
-
-pub comes_on : (May : Event → Core → Type 0) (c : Core) (es : Events) → AllKnowTheirCopies c es → AllMayCome May c es → AllComeOn May c es
+pub comes_on : (May : Event → Core → Type 0) (c : Core) (es : Events) → AllKnowTheirCopies c es → AllComeWithRoom May c es → AllComeOn May c es
 comes_on May c [] k h = tt
 comes_on May c (e ∷ es) k h =
     ((λ on. record { seated = (k.0 on).0; known = (k.0 on).1; room = (h.0 on).0; may = (h.0 on).1 }), comes_on May (step e.0 e.1 c) es k.1 h.1)
@@ -268,3 +260,18 @@ opens_along shape limits taken moment logs es may = go (open_core shape limits t
     go : (o : Option CoreFault) → (open_core shape limits taken moment).ended ≡ o → AllKnowTheirCopies (open_core shape limits taken moment) es
     go None on = let k = opens_in_step shape limits taken moment logs may on in knows_along (open_core shape limits taken moment) es k.0 k.1
     go (Some f) i = knows_ended (open_core shape limits taken moment) es f i
+
+-- ---- a store that opens over sound lists
+
+module _ (set : Setting) (found : Found) (o : OpensSoundly set found) where
+  whole_opens : MayOpenWhole set found
+  whole_opens = record { shape = o.shape; count = o.many; lists = o.lists; views = λ g low. opened_rises set found o.sound g low }
+
+  pub soundly_knows : (es : Events) → AllKnowTheirCopies (first_core set found) es
+  soundly_knows es = go (first_core set found).ended refl
+    where
+      go : (x : Option CoreFault) → (first_core set found).ended ≡ x → AllKnowTheirCopies (first_core set found) es
+      go None on =
+          let w = opens_whole set found whole_opens on in
+          knows_along (first_core set found) es w.0 (record { shape = w.1.shape; each = λ g low. (w.1.each g low).in_step })
+      go (Some f) i = knows_ended (first_core set found) es f i

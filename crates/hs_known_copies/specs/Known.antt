@@ -4,8 +4,10 @@ use Rattle.hs_copies.specs.Lists.{Item}
 use Rattle.hs_copies.specs.Machine.{Copies}
 use Rattle.hs_core_copies.specs.InStep.{IsInStep}
 use Rattle.hs_core_copies.specs.Opening.{IsTakenLog}
+use Rattle.hs_core_words.specs.declared.event.Event.{Event}
 use Rattle.hs_core_words.specs.Looking.{shape_of}
 use Rattle.hs_core_words.specs.Opening.{Taken}
+use Rattle.hs_core_words.specs.Records.{HasRecordRoom}
 use Rattle.hs_core_words.specs.State.{Core}
 use Rattle.hs_core_words.specs.Step.{step}
 use Rattle.hs_entry.specs.declared.entry.Entry.{Entry}
@@ -13,7 +15,7 @@ use Rattle.hs_events.specs.Due.{Events}
 use Rattle.hs_limits.specs.declared.shape.Shape.{Shape}
 use Rattle.hs_limits.specs.Shape.{IsShape}
 use Rattle.hs_members.specs.Members.{IsShard}
-use Rattle.hs_standing.specs.Copies.{IsSeated, KnowsItsCopies}
+pub use Rattle.hs_standing.specs.Copies.{AllKnowTheirCopies}
 
 -- by shard the machine of its copies
 pub record AreInStep (core : Core) (machines : ℕ → Copies Entry) : Type 0 where
@@ -26,7 +28,7 @@ pub record AreTakenLogs (shape : Shape) (taken : Taken) (logs : ℕ → List (It
   pub count : length taken.good ≡ shape.shards * shape.copies
   pub each : (shard : ℕ) → IsShard shape shard → IsTakenLog taken shard (logs shard)
 
--- along events a core has its seats, and knows its copies, as long as it goes on
-abbrev pub AllKnowTheirCopies : Core → Events → Type 0
-AllKnowTheirCopies core [] = Unit {0}
-AllKnowTheirCopies core (e ∷ es) = (core.ended ≡ None → IsSeated core × KnowsItsCopies core) × AllKnowTheirCopies (step e.0 e.1 core) es
+-- some events come so, and no shard has more root records, with the Roots that wait, than it takes, as long as the core goes on
+abbrev pub AllComeWithRoom : (Event → Core → Type 0) → Core → Events → Type 0
+AllComeWithRoom May core [] = Unit {0}
+AllComeWithRoom May core (e ∷ es) = (core.ended ≡ None → HasRecordRoom core × May e.0 core) × AllComeWithRoom May (step e.0 e.1 core) es

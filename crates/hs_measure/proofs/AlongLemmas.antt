@@ -27,7 +27,8 @@ use Rattle.hs_measure.proofs.RestLemmas.{runs_core}
 use Rattle.hs_measure.specs.Between.{IsAlong}
 use Rattle.hs_measure.specs.Promised.{KeepsPromise}
 use Rattle.hs_settled.proofs.ListLemmas.{take_all}
-use Rattle.hs_standing.specs.Run.{IsRunning, MayRun}
+use Rattle.hs_standing.proofs.KnownAlongLemmas.{runs_before}
+use Rattle.hs_standing.specs.Run.{IsRunning, MayRun, RunsBefore}
 use Rattle.hs_standing.specs.Standing.{AllMayKeep, judging_of}
 use Rattle.hs_standing.specs.Start.{Start}
 use Rattle.hs_told.specs.InTurn.{AllMayCome, IsInTurn}
@@ -36,8 +37,8 @@ use Rattle.hs_told.specs.InTurn.{AllMayCome, IsInTurn}
 
 -- what each event of a run keeps, what hs_clauses says of reports, and hs_settled of what is open
 pub record AlongLaws : Type 0 where
-  pub events : (start : Start) (c : Whole) (events : Events) → IsRunning start c → AllMayKeep start (MayRun start) c.core events → TellsDeletion (judging_of start) start.entry c.core
-      → (n : ℕ) → KeepsPromise start (steps c.core (take n events))
+  pub events : (start : Start) (core : Core) (events : Events) → RunsBefore start core events → AllMayKeep start (MayRun start) core events → TellsDeletion (judging_of start) start.entry core
+      → (n : ℕ) → KeepsPromise start (steps core (take n events))
   pub told : (start : Start) (c : Whole) (events : Events) → IsReading start c → AllCome (judging_of start) c.core events → KeepsRecordRoom c.core events → AreTold c events → TellTheirBlocks (judging_of start) start.entry c.core events
   pub reads : (start : Start) (c : Whole) (events : Events) → IsReading start c → AllCome (judging_of start) c.core events → KeepsRecordRoom c.core events → ((steps c.core events).ended ≡ None → HasRecordRoom (steps c.core events)) → AreTold c events
       → (steps c.core events).ended ≡ None → IsReading start (runs whole_machine c events)
@@ -85,7 +86,7 @@ module _ (laws : AlongLaws) (start : Start) (c : Whole) (its : IsAlong start c) 
   may = all_keep start c.core es comes.come comes.fresh comes.addressed (record { room = rooms; blocks = laws.told start c es its.reading all rooms comes.told }) last
 
   pub moments : (n : ℕ) → KeepsPromise start (steps c.core (take n es))
-  moments n = laws.events start c es run may its.deletes n
+  moments n = laws.events start c.core es (runs_before start c run es) may its.deletes n
 
   -- behind all of them
   pub kept : KeepsPromise start (steps c.core es)

@@ -7,7 +7,7 @@ use Rattle.hs_standing.proofs.AddressedLemmas.{settle_addressed}
 use Rattle.hs_clauses.proofs.FirstLemmas.{opens_first}
 use Rattle.hs_clauses.proofs.LineLemmas.{opening_due}
 use Rattle.hs_clauses.proofs.ReadLemmas.{BringsAll, applied_all, from_empty, read_brings, read_from_one}
-use Rattle.hs_clauses.proofs.RoomLemmas.{first_room}
+use Rattle.hs_standing.proofs.FirstRoomLemmas.{first_room}
 use Rattle.hs_clauses.proofs.TakenLemmas.{list_is, peers_are}
 use Rattle.hs_cluster.proofs.OpeningMoves.{all_good}
 use Rattle.hs_cluster.specs.Calls.{ran_out}

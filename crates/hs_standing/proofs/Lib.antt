@@ -25,6 +25,7 @@ pub mod EpochLemmas
 pub mod EventLemmas
 pub mod FewLemmas
 pub mod FirstLemmas
+pub mod FirstRoomLemmas
 pub mod FollowLemmas
 pub mod GainLemmas
 pub mod GoLemmas
@@ -39,6 +40,7 @@ pub mod HistoryLemmas
 pub mod ImageLemmas
 pub mod JoinLemmas
 pub mod KeepLemmas
+pub mod KnownAlongLemmas
 pub mod KnownLemmas
 pub mod LastLemmas
 pub mod Laws

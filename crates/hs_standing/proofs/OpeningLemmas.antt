@@ -34,6 +34,7 @@ use Rattle.hs_moments.proofs.OpeningLemmas.{opening_is_sane}
 use Rattle.hs_moments.proofs.WorkLemmas.{last_is, reach_sane}
 use Rattle.hs_moments.specs.WholeMachine.{whole_machine}
 use Rattle.hs_replica.specs.Group.{Group, entries_above, length_of, new_group}
+use Rattle.hs_sound.specs.Stay.{AreSoundAlong}
 use Rattle.hs_standing.proofs.GoLemmas.{views_append}
 use Rattle.hs_standing.proofs.SettleLemmas.{within_as}
 use Rattle.hs_standing.proofs.ViewLemmas.{OpensOn, opens_on}
@@ -159,6 +160,15 @@ each_whole P lists k (suc n) (suc j) low h = subst (λ m. P (lists.whole m)) (sh
     shift : (a b : ℕ) → a + 1 + b ≡ a + suc b
     shift a b = omega arith
 
+-- views of sound lists never fall
+pub opened_rises : (set : Setting) (found : Found) → AreSoundAlong set (whole_from (opened_lists set found) 0 set.shape.shards) → (g : ℕ) → g < set.shape.shards → HasRisingViews (opened_list set found g)
+opened_rises set found sound g low =
+    subst (λ k. HasRisingViews (opened_list set found k)) (zero_left g)
+    (each_whole HasRisingViews (opened_lists set found) 0 set.shape.shards g low (recursion_from_All HasRisingViews (whole_from (opened_lists set found) 0 set.shape.shards) sound.sound.views))
+  where
+    zero_left : (a : ℕ) → 0 + a ≡ a
+    zero_left a = omega arith
+
 -- ---- as it opens
 
 -- a core that opens is in turn, as hs_told has it
@@ -264,10 +274,8 @@ module _ (start : Start) (found : Found) (w : OpensWell start found) where
 
   views_are : (g : ℕ) → g < start.set.shape.shards → HasRisingViews (reach (open_whole start.set found) g)
   views_are g low =
-      let rising : HasRisingViews (opened_list start.set found (0 + g)) = each_whole HasRisingViews (opened_lists start.set found) 0 start.set.shape.shards g low (recursion_from_All HasRisingViews (whole_from (opened_lists start.set found) 0 start.set.shape.shards) w.sound.sound.views) in
       subst (λ (es : Numbered). HasRisingViews es) (sym (whole_is g low))
-      (rise_behind (view_of g fresh.members) (opened_list start.set found g) (front_of g first + 1) (group_of g first).waiting
-      (subst (λ k. HasRisingViews (opened_list start.set found k)) (zero_left g) rising) (view_up g low) (opens.views g))
+      (rise_behind (view_of g fresh.members) (opened_list start.set found g) (front_of g first + 1) (group_of g first).waiting (opened_rises start.set found w.sound g low) (view_up g low) (opens.views g))
 
   -- ---- what took effect
 

@@ -36,7 +36,7 @@ use Rattle.hs_standing.proofs.MomentLemmas.{StaysInTurn, all_stand, moments_stan
 use Rattle.hs_standing.proofs.OpeningLemmas.{OpensInTurn, opened_stands}
 use Rattle.hs_standing.proofs.ReopenLemmas.{reopens_where}
 use Rattle.hs_standing.proofs.StandLemmas.{NoLineWaitsTwice}
-use Rattle.hs_standing.proofs.TakenLemmas.{FoldsInMemory, may_open}
+use Rattle.hs_standing.proofs.TakenLemmas.{FoldsInMemory, may_open, runs_soundly}
 use Rattle.hs_standing.specs.Opening.{opened_folds}
 use Rattle.hs_standing.specs.Run.{IsRunning, MayRun, RunOpens, RunStands}
 use Rattle.hs_standing.specs.Standing.{AllMayKeep, AreBegun, CoreStands, IsStateAt, judging_of}
@@ -99,7 +99,7 @@ no_sessions cs = refl
 entry_valid : (memory : FoldsInMemory) (start : Start) (found : Found) → RunOpens start found → IsValid start.entry
 entry_valid memory start found o =
     subst (λ (s : Store). IsValid s) (sym (o.entry ∙ no_sessions (opened_folds start.set found)))
-    (folds_valid start.set.name (new_core start.set.shape start.set.limits (opens_with start.set found) found.opened) (opened_folds start.set found) (may_open memory start found o.well o.shape o.addressed).lawful)
+    (folds_valid start.set.name (new_core start.set.shape start.set.limits (opens_with start.set found) found.opened) (opened_folds start.set found) (may_open memory start.set found (runs_soundly start found o) start.commands).lawful)
 
 first_stands : (below : LawsBelow) (start : Start) (found : Found) → RunOpens start found → RunStands start (first_core start.set found) (opened_folds start.set found)
 first_stands below start found o =
@@ -111,7 +111,7 @@ first_stands below start found o =
     })
     start.set.shape start.set.limits (opens_with start.set found) found.opened
     (subst (λ (s : Store). IsStanding (judging_of start) s (new_core start.set.shape start.set.limits (opens_with start.set found) found.opened) (opened_folds start.set found)) (sym (o.entry ∙ no_sessions (opened_folds start.set found)))
-    (standing_new (judging_of start) start.set.shape (opens_with start.set found) found.opened (opened_folds start.set found) (may_open below.memory start found o.well o.shape o.addressed)))
+    (standing_new (judging_of start) start.set.shape (opens_with start.set found) found.opened (opened_folds start.set found) (may_open below.memory start.set found (runs_soundly start found o) start.commands)))
 
 -- ---- a run
 

@@ -1,13 +1,13 @@
 -- Sound lists give a core that may open: its catalogues are the folds of a lawful history, and each block was stored by an entry of its list.
-use Rattle.std.proofs.Common.{◌≡◌, ◌∙◌, ap, sym, subst, ℕ, zero, suc, ◌+◌, ◌<◌, false, List, [], ◌∷◌, map, refl, arith, length}
+use Rattle.std.proofs.Common.{◌≡◌, ◌∙◌, ap, sym, subst, ℕ, zero, suc, ◌+◌, ◌<◌, false, List, [], ◌∷◌, map, Option, refl, arith, length}
 use Rattle.std.proofs.lemmas.List.Elements.{All-head, All-tail}
 use Rattle.std.proofs.lemmas.List.FromFn.{get_or-map-range_with_len, length-enumerate_from}
-use Rattle.std.specs.List.{AllByRecursion, enumerate_from, range_with_len}
+use Rattle.std.specs.List.{enumerate_from, range_with_len}
 use Rattle.std.specs.Prelude.{All, slice_index}
 use Rattle.hs_answered.specs.Standing.{IsFolded, forget_all}
 use Rattle.hs_core_words.specs.Opening.{new_core}
 use Rattle.hs_core_words.specs.State.{Core}
-use Rattle.hs_effects.specs.Lawful.{AreOfHistory}
+use Rattle.hs_effects.specs.Lawful.{AreOfHistory, IsLawful}
 use Rattle.hs_entry.specs.declared.entry.Entry.{Entry}
 use Rattle.hs_entry.specs.Entries.{is_of_base, rank_of}
 use Rattle.hs_events.specs.Found.{Found, opened_catalogue, opened_list, opens_with}
@@ -19,19 +19,20 @@ use Rattle.hs_fold.specs.Runs.Fits.{catalogue_at}
 use Rattle.hs_fold.specs.Runs.Opened.{catalogues}
 use Rattle.hs_fold.specs.Runs.Own.{AreOwn}
 use Rattle.hs_fold.specs.Shards.Setting.{Numbered, Setting, shard_in}
-use Rattle.hs_standing.specs.Held.{KeepsAddresses}
 use Rattle.hs_joint.proofs.HistoryLemmas.{history_goes, shape_few, shape_some}
 use Rattle.hs_standing.specs.Opens.{MayOpen}
 use Rattle.hs_limits.specs.declared.address.Address.{Address}
 use Rattle.hs_limits.specs.declared.shape.Shape.{Shape}
 use Rattle.hs_limits.specs.Shape.{IsShape}
 use Rattle.hs_memory.specs.Forget.{apply_all, forget, reading}
+use Rattle.hs_model.specs.declared.command.Command.{Command}
 use Rattle.hs_moments.proofs.WorkLemmas.{last_is}
 use Rattle.hs_standing.proofs.RestsOpenLemmas.{list_numbers, stored_new}
 use Rattle.hs_shard.specs.Facts.{empty_catalogue}
-use Rattle.hs_standing.specs.Opening.{OpensWell, opened_folds, opened_lists}
-use Rattle.hs_standing.specs.Standing.{judging_of}
+use Rattle.hs_sound.specs.Stay.{AreSoundAlong}
 use Rattle.hs_standing.specs.Lists.{Lists, whole_from}
+use Rattle.hs_standing.specs.Opening.{OpensSoundly, opened_folds, opened_lists}
+use Rattle.hs_standing.specs.Run.{RunBegins, RunOpens}
 use Rattle.hs_standing.specs.Start.{Start}
 
 -- a catalogue in memory is the fold of its list, as hs_memory has it
@@ -64,56 +65,64 @@ fold_from set lists k (suc n) (suc j) low = fold_from set lists (k + 1) n j (ome
 
 -- ---- what a store opens with
 
-module _ (memory : FoldsInMemory) (start : Start) (found : Found) (w : OpensWell start found) (shape : IsShape start.set.shape) where
-  abbrev set : Setting
-  set = start.set
-
+module _ (memory : FoldsInMemory) (set : Setting) (found : Found) (shape : IsShape set.shape) (sound : AreSoundAlong set (whole_from (opened_lists set found) 0 set.shape.shards)) where
   abbrev fresh : Core
-  fresh = new_core start.set.shape start.set.limits (opens_with start.set found) found.opened
+  fresh = new_core set.shape set.limits (opens_with set found) found.opened
 
-  in_memory : (k n : ℕ) → map (opened_catalogue start.set found) (range_with_len k n) ≡ forget_all start.set.shape k (catalogues start.set k (whole_from (opened_lists start.set found) k n))
+  in_memory : (k n : ℕ) → map (opened_catalogue set found) (range_with_len k n) ≡ forget_all set.shape k (catalogues set k (whole_from (opened_lists set found) k n))
   in_memory k zero = refl
   in_memory k (suc n) =
-      let one = memory start.set.name start.set.shape k (opened_list start.set found k) in
+      let one = memory set.name set.shape k (opened_list set found k) in
       let rest = in_memory (k + 1) n in
       λ i. one i ∷ rest i
 
-  own : AreOwn start.set.shape.shards 0 (opened_folds start.set found)
+  own : AreOwn set.shape.shards 0 (opened_folds set found)
   own =
-      let l = w.sound.sound.lawful in
-      subst (λ (ds : List Folded). AreOwn start.set.shape.shards 0 ds) l.gives
-      (history_goes start.set (shape_some start.set.shape shape) (shape_few start.set.shape shape) l.history l.fits w.sound.records).standing.joined.own
+      let l = sound.sound.lawful in
+      subst (λ (ds : List Folded). AreOwn set.shape.shards 0 ds) l.gives
+      (history_goes set (shape_some set.shape shape) (shape_few set.shape shape) l.history l.fits sound.records).standing.joined.own
 
-  folded : IsFolded fresh (opened_folds start.set found)
+  pub folded : IsFolded (new_core set.shape set.limits (opens_with set found) found.opened) (opened_folds set found)
   folded = record {
     valid = shape;
-    shards = count_of start.set 0 (opened_lists start.set found) start.set.shape.shards;
+    shards = count_of set 0 (opened_lists set found) set.shape.shards;
     own = own;
-    catalogues = in_memory 0 start.set.shape.shards;
+    catalogues = in_memory 0 set.shape.shards;
   }
 
-  history : AreOfHistory start.set (opened_folds start.set found)
-  history = record { history = w.sound.sound.lawful.history; fits = w.sound.sound.lawful.fits; records = w.sound.records; gives = w.sound.sound.lawful.gives }
+  abbrev pub history : AreOfHistory set (opened_folds set found)
+  history = record { history = sound.sound.lawful.history; fits = sound.sound.lawful.fits; records = sound.records; gives = sound.sound.lawful.gives }
 
+  abbrev pub opens_lawful : IsLawful set.name (new_core set.shape set.limits (opens_with set found) found.opened) (opened_folds set found)
+  opens_lawful = record { folded = folded; lawful = history }
+
+module _ (memory : FoldsInMemory) (set : Setting) (found : Found) (o : OpensSoundly set found) where
   zero_left : (a : ℕ) → 0 + a ≡ a
   zero_left a = omega arith
 
-  long_is : (g : ℕ) → g < start.set.shape.shards → slice_index (opens_with start.set found).lengths g ≡ length (opened_list start.set found g)
+  long_is : (g : ℕ) → g < set.shape.shards → slice_index (opens_with set found).lengths g ≡ length (opened_list set found g)
   long_is g low =
-      let l : IsFromOne (opened_list start.set found g) = w.lists g low in
-      get_or-map-range_with_len (λ shard. (rank_of (opened_list start.set found shard)).number) 0 start.set.shape.shards g g 0 low (omega arith)
+      let l : IsFromOne (opened_list set found g) = o.lists g low in
+      get_or-map-range_with_len (λ shard. (rank_of (opened_list set found shard)).number) 0 set.shape.shards g g 0 low (omega arith)
       ∙ ap (λ (es : Numbered). (rank_of es).number) l.counted ∙ last_is l.entries l.plain ∙ sym (ap (λ (es : Numbered). length es) l.counted ∙ length-enumerate_from 1 l.entries)
 
-  fold_is : (g : ℕ) → g < start.set.shape.shards → catalogue_at (opened_folds start.set found) g ≡ catalogue_of (shard_in start.set g) (opened_list start.set found g)
-  fold_is g low = fold_from start.set (opened_lists start.set found) 0 start.set.shape.shards g low ∙ ap (λ m. catalogue_of (shard_in start.set m) (opened_list start.set found m)) (zero_left g)
+  fold_is : (g : ℕ) → g < set.shape.shards → catalogue_at (opened_folds set found) g ≡ catalogue_of (shard_in set g) (opened_list set found g)
+  fold_is g low = fold_from set (opened_lists set found) 0 set.shape.shards g low ∙ ap (λ m. catalogue_of (shard_in set m) (opened_list set found m)) (zero_left g)
 
-  pub may_open : AllByRecursion KeepsAddresses (opens_with start.set found).catalogues → MayOpen (judging_of start) start.set.shape (opens_with start.set found) found.opened (opened_folds start.set found)
-  may_open addressed = record {
-    lawful = record { folded = folded; lawful = history };
-    stored = stored_new (opened_folds start.set found) start.set.shape start.set.limits (opens_with start.set found) found.opened (count_of start.set 0 (opened_lists start.set found) start.set.shape.shards)
+  pub may_open : (commands : ℕ → Option Command) → MayOpen (record { commands = commands; name = set.name; limits = set.limits }) set.shape (opens_with set found) found.opened (opened_folds set found)
+  may_open commands = record {
+    lawful = opens_lawful memory set found o.shape o.sound;
+    stored = stored_new (opened_folds set found) set.shape set.limits (opens_with set found) found.opened (count_of set 0 (opened_lists set found) set.shape.shards)
         (λ g low a facts at.
-        let up = list_numbers (shard_in start.set g) (opened_list start.set found g) (numbered_from (opened_list start.set found g) (w.lists g low)) a facts (ap (λ (c : Folded). facts_at c a) (sym (fold_is g low)) ∙ at) in
+        let up = list_numbers (shard_in set g) (opened_list set found g) (numbered_from (opened_list set found g) (o.lists g low)) a facts (ap (λ (c : Folded). facts_at c a) (sym (fold_is g low)) ∙ at) in
         let long = long_is g low in
         omega (arith, up, long));
-    addressed = addressed;
+    addressed = o.addressed;
   }
+
+-- so a run opens
+pub runs_soundly : (start : Start) (found : Found) → RunOpens start found → OpensSoundly start.set found
+runs_soundly start found o = record { shape = o.shape; names = o.names; many = o.well.many; lists = o.well.lists; sound = o.well.sound; addressed = o.addressed }
+
+pub run_begins : (start : Start) (found : Found) → RunOpens start found → RunBegins start found
+run_begins start found o = record { soundly = runs_soundly start found o; entry = o.entry; nobody = o.well.nobody }

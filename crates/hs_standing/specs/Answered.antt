@@ -1,12 +1,10 @@
--- A store of one copy a shard along the events of a script, and the answers that it gives.
+-- A core along the events of a script, and the answers that it gives.
 use Rattle.std.specs.Prelude.{◌≡◌, List, [], ◌∷◌, None}
 use Rattle.hs_standing.specs.Walks.{HasRecordRoom}
 use Rattle.hs_answered.specs.Telling.{Judging, events_in}
 use Rattle.hs_core_words.specs.State.{Core}
 use Rattle.hs_core_words.specs.Step.{step}
 use Rattle.hs_events.specs.Due.{Events}
-use Rattle.hs_events.specs.Sane.{IsSane}
-use Rattle.hs_events.specs.Whole.{Whole, step_whole}
 use Rattle.hs_fold.specs.Runs.Facts.{Catalogue as Folded}
 use Rattle.hs_journal.specs.declared.entry.JournalEntry.{JournalEntry}
 use Rattle.hs_journal.specs.Events.{IsAnswered}
@@ -22,11 +20,6 @@ use Rattle.hs_told.specs.InTurn.{IsInTurn}
 -- by what the journal of a script is judged
 abbrev pub judging_of : Script → Limits → Judging
 judging_of s limits = record { commands = s.commands; name = s.name; limits = limits }
-
--- a core and its lists behind some events
-abbrev pub steps_whole : Whole → Events → Whole
-steps_whole whole [] = whole
-steps_whole whole (e ∷ es) = steps_whole (step_whole e.0 e.1 whole) es
 
 -- ---- what is asked along events, as long as the core goes on
 
@@ -46,12 +39,11 @@ pub record IsAskedAlong (by : Judging) (start : Store) (core : Core) (es : Event
 
 -- ---- between two events
 
--- sane while it goes on, its answers in order, and its core stands for some folds
-pub record IsReady (by : Judging) (start : Store) (whole : Whole) : Type 0 where
-  pub sane : whole.core.ended ≡ None → IsSane whole
-  pub turn : IsInTurn by.commands whole.core
+-- its answers are in order, and it stands for some folds
+pub record IsReady (by : Judging) (start : Store) (core : Core) : Type 0 where
+  pub turn : IsInTurn by.commands core
   pub folds : List Folded
-  pub stands : IsStanding by start whole.core folds
+  pub stands : IsStanding by start core folds
 
 -- entries are a legal run of the plain store from a store on, their answers are that store's, and they stand in the order of a journal
 pub record AreAnswers (by : Judging) (start : Store) (entries : List JournalEntry) : Type 0 where

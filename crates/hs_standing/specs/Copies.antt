@@ -59,3 +59,8 @@ pub record ComesOn (May : Event → Core → Type 0) (event : Event) (core : Cor
 abbrev pub AllComeOn : (Event → Core → Type 0) → Core → Events → Type 0
 AllComeOn May core [] = Unit {0}
 AllComeOn May core (e ∷ es) = (core.ended ≡ None → ComesOn May e.0 core) × AllComeOn May (step e.0 e.1 core) es
+
+-- along events a core has its seats, and knows its copies, as long as it goes on
+abbrev pub AllKnowTheirCopies : Core → Events → Type 0
+AllKnowTheirCopies core [] = Unit {0}
+AllKnowTheirCopies core (e ∷ es) = (core.ended ≡ None → IsSeated core × KnowsItsCopies core) × AllKnowTheirCopies (step e.0 e.1 core) es

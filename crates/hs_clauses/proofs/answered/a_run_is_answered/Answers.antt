@@ -1,3 +1,4 @@
+use Rattle.hs_clauses.proofs.AnswerLemmas.{answers_of, full_of}
 use Rattle.hs_clauses.proofs.answered.a_run_is_answered.Goals as goal
 use Rattle.hs_clauses.proofs.CaseLemmas.{told_answers, told_full}
 use Rattle.hs_clauses.proofs.ComingLemmas.{ComingLaws}
@@ -14,7 +15,6 @@ returns-clause-answers c = λ S r run sound.
       lines = c.a_script_is_answered.ensures.lines;
       answers = c.a_script_is_answered.ensures.answers;
       memory = c.catalogues_in_memory_are_folds.ensures.list;
-      runs = c.a_run_goes_on.ensures.opens;
     } in
     let coming : ComingLaws = record {
       opens = c.answers_stay_in_order.ensures.opens;
@@ -37,7 +37,6 @@ returns-clause-full c = λ S r run sound.
       lines = c.a_script_is_answered.ensures.lines;
       answers = c.a_script_is_answered.ensures.answers;
       memory = c.catalogues_in_memory_are_folds.ensures.list;
-      runs = c.a_run_goes_on.ensures.opens;
     } in
     let coming : ComingLaws = record {
       opens = c.answers_stay_in_order.ensures.opens;
@@ -51,3 +50,25 @@ returns-clause-full c = λ S r run sound.
       asks = c.a_line_asks_as_its_command.ensures;
     } in
     told_full laws coming c.each_report_tells_its_block.ensures.script S r run sound
+
+pub returns-clause-soundly : goal.returns-clause-soundly
+returns-clause-soundly c = λ S r story run.
+    let laws : LawsHere = record {
+      opens = c.a_script_is_answered.ensures.opens;
+      opening = c.a_script_is_answered.ensures.opening;
+      lines = c.a_script_is_answered.ensures.lines;
+      answers = c.a_script_is_answered.ensures.answers;
+      memory = c.catalogues_in_memory_are_folds.ensures.list;
+    } in
+    answers_of laws S r story run
+
+pub returns-clause-refused : goal.returns-clause-refused
+returns-clause-refused c = λ S r story run.
+    let laws : LawsHere = record {
+      opens = c.a_script_is_answered.ensures.opens;
+      opening = c.a_script_is_answered.ensures.opening;
+      lines = c.a_script_is_answered.ensures.lines;
+      answers = c.a_script_is_answered.ensures.answers;
+      memory = c.catalogues_in_memory_are_folds.ensures.list;
+    } in
+    full_of laws S r story run

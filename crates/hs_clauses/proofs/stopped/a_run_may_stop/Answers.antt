@@ -18,6 +18,7 @@ returns c = λ S r run may.
     } in
     let laws : StopLaws = record {
       coming = coming;
+      memory = c.catalogues_in_memory_are_folds.ensures.list;
       runs = c.a_run_goes_on.ensures.opens;
       first = c.a_run_goes_on.ensures.first;
       reopens = c.each_moment_of_a_run_stands.ensures.reopens;
