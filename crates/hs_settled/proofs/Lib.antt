@@ -35,6 +35,7 @@ mod GoingListLemmas
 mod GoingOpenLemmas
 mod GoingRestLemmas
 pub mod GotLemmas
+pub mod JoiningLemmas
 pub mod KeptLemmas
 pub mod KindLemmas
 pub mod LastLemmas
@@ -42,6 +43,7 @@ pub mod LedLemmas
 pub mod LevelLemmas
 pub mod LineLemmas
 pub mod ListLemmas
+pub mod LossLemmas
 pub mod LostLemmas
 pub mod MachineLemmas
 pub mod MereLemmas
@@ -58,6 +60,7 @@ pub mod NudgeLemmas
 pub mod OpenLemmas
 pub mod OrderLemmas
 pub mod OwnLemmas
+pub mod PartLemmas
 pub mod PoolLemmas
 pub mod PromiseLemmas
 pub mod PromptLemmas
@@ -74,6 +77,7 @@ mod SealLemmas
 pub mod SeatLemmas
 pub mod SentLemmas
 pub mod ShortLemmas
+pub mod StartedLemmas
 mod StayLemmas
 pub mod StepLemmas
 mod TakenLemmas

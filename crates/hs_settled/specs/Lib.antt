@@ -6,6 +6,7 @@ pub mod Ending
 pub mod Machine
 pub mod Moving
 pub mod Noted
+pub mod Opened
 pub mod Printing
 pub mod Quiet
 pub mod Settled

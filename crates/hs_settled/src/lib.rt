@@ -22,7 +22,6 @@ mod nothing;
 mod order;
 mod promised;
 mod prompt;
-mod quiet;
 mod refusals;
 mod rest;
 mod settled;
@@ -52,11 +51,8 @@ pub use nothing::{a_run_without_a_course_began_nothing, a_run_without_a_course_h
 pub use order::a_journal_is_in_order;
 pub use promised::a_run_deletes_as_promised;
 pub use prompt::a_prompt_line_has_its_entry;
-pub use quiet::a_quiet_store_has_nothing_open;
 pub use refusals::a_refusal_comes_where_its_row_says;
 pub use rest::a_settle_comes_to_rest;
-pub use settled::{
-    a_settle_that_ends_quiet_settles, a_settle_with_nothing_open_settles, each_settle_settles,
-};
+pub use settled::each_settle_settles;
 pub use short::a_calm_journal_is_short;
 pub use waits::{each_entry_is_to_be_sealed, nothing_waits_where_no_job_is_left};

@@ -1,5 +1,6 @@
 -- The laws by which a run keeps what is promised of it, as calls of them ensure them.
 use Rattle.std.specs.Prelude.{All, IfSome, None, Option, Some, [], false, length, true, ℕ, ◌++◌, ◌+◌, ◌<◌, ◌≡◌, ◌≤◌, List}
+use Rattle.hs_settled.specs.Opened.{IsAsideAs, OpensRanked}
 use Rattle.hs_settled.specs.Printing.{FailsInOpening, FailsInText, LeavesUnread}
 use Rattle.hs_clauses.specs.Asked.{start_of}
 use Rattle.hs_clauses.specs.Shown.{IsShown, IsToldRun, OnDisks}
@@ -70,7 +71,7 @@ pub record Laws : Type 0 where
   pub dated : (S : Script) (r : Ran) (how : Option Story) → WentAs S r how → AreDated S.commands r.journal
   pub nothing : (S : Script) (r : Ran) (how : Option Story) → IsShape S.set.shape → WentAs S r how → IfSome how (LeavesUnread S r) → r.course ≡ [] → BeganNothing r
   pub start_good : (S : Script) (r : Ran) (story : Story) → S.set.shape.copies ≡ 1 → Went S r story → IsPast r 0 → (peer : ℕ) → peer < peer_count S.set.shape → starts_good story.found peer ≡ true
-  pub stay_good : (S : Script) (r : Ran) (story : Story) → S.set.shape.copies ≡ 1 → Went S r story → IsPast r 0 → (m peer : ℕ) → peer < peer_count S.set.shape
+  pub stay_good : (S : Script) (r : Ran) (story : Story) → Went S r story → IsPast r 0 → (m peer : ℕ) → peer < peer_count S.set.shape → starts_good story.found peer ≡ true
       → good_from false (first_items S.set.shape story.found r.old.moment) m peer ≡ true → note_count peer (below m r.journal) ≡ 0 → NoneFails S r peer → is_good r.course m peer ≡ true
   pub notes_end : (S : Script) (r : Ran) (how : Option Story) → S.set.shape.copies ≡ 1 → WentAs S r how → NotesEnd r
   pub ordered : (S : Script) (r : Ran) (how : Option Story) → client_op (S.commands 0) ≡ None → WentAs S r how → IsOrdered S.commands r.journal
@@ -79,13 +80,14 @@ pub record Laws : Type 0 where
   pub any_cause : (S : Script) (r : Ran) (how : Option Story) → WentAs S r how → (r.ending ≡ status.ReadFault → HasRisen r.old.source_faults r.new.source_faults)
       → (r.ending ≡ status.WriteFault → HasRisen r.old.sink_faults r.new.sink_faults)
       → ((peer : ℕ) (found : Header) → r.ending ≡ status.WrongShape peer found → peer < peer_count S.set.shape) → CauseButLoss S r r.ending
-  pub cause : (S : Script) (r : Ran) (how : Option Story) → S.set.shape.copies ≡ 1 → WentAs S r how → (r.ending ≡ status.ReadFault → HasRisen r.old.source_faults r.new.source_faults)
+  pub cause : (S : Script) (r : Ran) (how : Option Story) → WentAs S r how → ((S.set.shape.copies ≡ 1 → ⊥) → IfSome how (λ story. OpensRanked S.set story.found)) → (r.ending ≡ status.ReadFault → HasRisen r.old.source_faults r.new.source_faults)
       → (r.ending ≡ status.WriteFault → HasRisen r.old.sink_faults r.new.sink_faults)
       → ((peer : ℕ) (found : Header) → r.ending ≡ status.WrongShape peer found → peer < peer_count S.set.shape) → Cause S r r.ending
   -- notes
-  pub notes : (S : Script) (r : Ran) (story : Story) → S.set.shape.copies ≡ 1 → Went S r story → ((peer : ℕ) → peer < peer_count S.set.shape → IsReadAs r story peer)
+  pub notes : (S : Script) (r : Ran) (story : Story) → Went S r story → ((peer : ℕ) → peer < peer_count S.set.shape → IsReadAs r story peer)
       → ((disk : ℕ) → DiskRose r (loss_count story disk) disk)
-      → ((first_core S.set story.found).ended ≡ None → (disk : ℕ) → DiskRose r (failures true disk (first_core S.set story.found) (all_events story) + loss_count story disk) disk) → NotesCause S r
+      → ((first_core S.set story.found).ended ≡ None → (disk : ℕ) → DiskRose r (failures true disk (first_core S.set story.found) (all_events story) + loss_count story disk) disk)
+      → ((S.set.shape.copies ≡ 1 → ⊥) → (peer : ℕ) → peer < peer_count S.set.shape → starts_good story.found peer ≡ false → IsAsideAs S r story peer) → NotesCause S r
   pub notes_never : (S : Script) (r : Ran) → NeverOpened r → ((disk : ℕ) → faults_at r.old.disk_faults disk ≤ faults_at r.new.disk_faults disk) → NotesCause S r
   pub stored : StoresBlocks
   -- settles
