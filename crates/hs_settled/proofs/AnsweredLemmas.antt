@@ -4,21 +4,16 @@ use Rattle.std.proofs.lemmas.Bool.{cases_eq}
 use Rattle.std.proofs.lemmas.Grind.{flat_map-append}
 use Rattle.std.specs.List.{AllByRecursion}
 use Rattle.std.specs.Prelude.{flat_map}
-use Rattle.hs_answered.specs.Standing.{store_with}
 use Rattle.hs_answered.specs.Telling.{Judging, events_in}
 use Rattle.hs_settled.proofs.AskLemmas.{opening_due}
 use Rattle.hs_settled.proofs.CausesFirstLemmas.{line_first}
 use Rattle.hs_settled.proofs.CausesRunLemmas.{flat_is, mute}
-use Rattle.hs_core_words.specs.declared.event.Event.{Event}
-use Rattle.hs_core_words.specs.declared.event.Event.TheVariants as event
 use Rattle.hs_core_words.specs.Looking.{shape_of}
-use Rattle.hs_core_words.specs.Opening.{Taken, new_core, open_core}
 use Rattle.hs_core_words.specs.State.{Core}
 use Rattle.hs_core_words.specs.Step.{step}
-use Rattle.hs_desk.specs.declared.fault.CoreFault.{CoreFault}
 use Rattle.hs_settled.proofs.RuleLemmas.{all_front}
-use Rattle.hs_settled.proofs.DeletesRunLemmas.{steps_ended}
-use Rattle.hs_effects.specs.Logged.{MayBegin, MayBeginAll}
+use Rattle.hs_settled.proofs.BegunLemmas.{Told, begin_all, ranked, stands, valid}
+use Rattle.hs_effects.specs.Logged.{MayBeginAll}
 use Rattle.hs_events.proofs.RunLemmas.{steps_append}
 use Rattle.hs_events.specs.Commands.{AreOfLine}
 use Rattle.hs_events.specs.Course.{steps}
@@ -36,13 +31,13 @@ use Rattle.hs_limits.specs.declared.address.Address.{Address}
 use Rattle.hs_limits.specs.declared.limits.Limits.{Limits}
 use Rattle.hs_limits.specs.declared.shape.Shape.{Shape}
 use Rattle.hs_standing.specs.Telling.{told_so_far}
-use Rattle.hs_standing.proofs.LegalOpenLemmas.{folds_valid}
 use Rattle.hs_standing.proofs.LinesLineLemmas.{first_next}
 use Rattle.hs_standing.proofs.ValidLemmas.{told_valid}
-use Rattle.hs_standing.specs.Copies.{AllComeOn}
-use Rattle.hs_standing.specs.Held.{GivesAddresses}
-use Rattle.hs_standing.specs.Legal.{IsStanding, MayStand}
-use Rattle.hs_standing.specs.Opens.{MayOpen}
+use Rattle.hs_standing.proofs.TakenLemmas.{FoldsInMemory}
+use Rattle.hs_standing.specs.Run.{MayRun, RunBegins}
+use Rattle.hs_standing.specs.Standing.{AllMayKeep}
+use Rattle.hs_standing.specs.Start.{Start}
+use Rattle.hs_standing.specs.Legal.{IsStanding}
 use Rattle.hs_standing.specs.Script.{AreLines, IsNext, all_events}
 use Rattle.hs_model.specs.declared.command.Command.{Command}
 use Rattle.hs_model.specs.declared.command.Command.TheVariants as command
@@ -63,7 +58,7 @@ use Rattle.hs_quiet.proofs.RunLemmas.{going_before as going_from, run_up}
 use Rattle.hs_quiet.proofs.StoryLemmas.{settle_of_run}
 use Rattle.hs_quiet.proofs.SweptLemmas.{Below}
 use Rattle.hs_quiet.specs.Settled.{HaveRounds, IsLeft}
-use Rattle.hs_settled.proofs.FirstLemmas.{copies_told}
+use Rattle.hs_settled.proofs.FirstLemmas.{run_told}
 use Rattle.hs_settled.proofs.LevelLemmas.{IsCalm, Level, le_or, legal_front, level_along}
 use Rattle.hs_settled.proofs.LineLemmas.{Reached, going_before, joined, lined, reached}
 use Rattle.hs_settled.proofs.ListLemmas.{all_at, all_take, at_within, get_back, get_front, take_all, take_back}
@@ -72,16 +67,11 @@ use Rattle.hs_settled.proofs.OpenLemmas.{none_ask, open_level}
 use Rattle.hs_settled.proofs.StartedLemmas.{there_kept}
 use Rattle.hs_settled.specs.Opened.{OpensRanked}
 use Rattle.hs_settled.specs.Settled.{IsNoFirst, NothingOpen, core_behind, events_up_to}
-use Rattle.hs_told.proofs.OpenedLemmas.{opened_turn}
 use Rattle.hs_told.specs.InTurn.{IsInTurn, told_of}
 use Rattle.hs_told.specs.Part.{asking}
 use Rattle.hs_told.specs.Turns.{Turns}
 
 -- ---- some events, and those behind them
-
-come_first : (May : Event → Core → Type 0) (c : Core) (es fs : Events) → AllComeOn May c (es ++ fs) → AllComeOn May c es
-come_first May c [] fs may = tt
-come_first May c (e ∷ es) fs may = (may.0, come_first May (step e.0 e.1 c) es fs may.1)
 
 record More (core : Core) (es : Events) : Type 0 where
   more : List JournalEntry
@@ -110,66 +100,27 @@ judging S = record { commands = S.commands; name = S.set.name; limits = S.set.li
 
 -- ---- what is known of the events of a run
 
--- from a valid store on the core stands behind each front of them, and tells of no Enter of shard 0 by itself
+-- from a valid store on the core stands behind each front of them, its lines are new, and it tells of no Enter of shard 0 by itself; a shard whose list has no entry has had no view
 pub record StandsAlong (S : Script) (story : Story) (entry : Store) : Type 0 where
   pub valid : IsValid entry
+  pub ranked : OpensRanked S.set story.found
   pub stands : (before after : Events) → all_of story ≡ before ++ after → (cs : List Folded) × IsStanding (judging S) entry (steps (first_core S.set story.found) before) cs
+  pub begins : (before after : Events) → all_of story ≡ before ++ after → (steps (first_core S.set story.found) before).ended ≡ None → MayBeginAll S.set.name before (first_core S.set story.found)
   pub first : AllByRecursion IsNoFirst (told_of (last_core S story))
 
--- what hs_standing says of a core that opens, and of events
-pub record Told : Type 0 where
-  pub opens : (by : Judging) (shape : Shape) (taken : Taken) (moment : ℕ) (cs : List Folded) → GivesAddresses by.name → MayOpen by shape taken moment cs
-      → (after : List Folded) × IsStanding by (store_with cs []) (open_core shape by.limits taken moment) after
-  pub events : (by : Judging) (start : Store) (core : Core) (events : Events) (cs : List Folded) → GivesAddresses by.name → IsValid start → core.refused ≡ [] → core.entries ≡ []
-      → AllComeOn (MayStand by start) core events → IsStanding by start core cs → (after : List Folded) × IsStanding by start (steps core events) after
-
-may_begin : (by : Judging) (start : Store) (e : Event) (c : Core) → MayStand by start e c → MayBegin by.name e c
-may_begin by start (event.Line line o) c may = may.fresh
-may_begin by start (event.Report peer d) c may = tt
-may_begin by start (event.Turn line peer) c may = tt
-may_begin by start (event.Deliver line number) c may = tt
-may_begin by start (event.Lose line number) c may = tt
-may_begin by start (event.Repeat line number) c may = tt
-may_begin by start (event.Nudge line peer) c may = tt
-may_begin by start (event.Fail line peer) c may = tt
-may_begin by start (event.Start line peer) c may = tt
-
-all_begin : (by : Judging) (start : Store) (c : Core) (es : Events) → AllComeOn (MayStand by start) c es → (steps c es).ended ≡ None → MayBeginAll by.name es c
-all_begin by start c [] come going = tt
-all_begin by start c (e ∷ es) come going = (may_begin by start e.0 c (come.0 (going_from (e ∷ es) c going)).may, all_begin by start (step e.0 e.1 c) es come.1 going)
-
--- so it is along a run of any number of copies
-pub along : Told → (S : Script) (story : Story) (cs : List Folded) → GivesAddresses S.set.name → MayOpen (judging S) S.set.shape (opens_with S.set story.found) story.found.opened cs
-    → AllComeOn (MayStand (judging S) (store_with cs [])) (first_core S.set story.found) (all_of story) → StandsAlong S story (store_with cs [])
-along laws S story cs names opens come = record { valid = valid; stands = stands; first = firsts }
+-- so it is of a run over sound lists
+pub along : Told → FoldsInMemory → (S : Script) (entry : Store) (story : Story) → RunBegins (record { set = S.set; commands = S.commands; entry = entry }) story.found
+    → AllMayKeep (record { set = S.set; commands = S.commands; entry = entry }) (MayRun (record { set = S.set; commands = S.commands; entry = entry })) (first_core S.set story.found) (all_of story) → StandsAlong S story entry
+along told memory S entry story b may = record {
+  valid = valid start story.found b memory;
+  ranked = ranked start story.found b;
+  stands = stands start story.found b memory (all_of story) may told;
+  begins = begin_all start story.found b memory (all_of story) may;
+  first = run_told memory start story.found (all_of story) b may;
+}
   where
-    first : Core
-    first = first_core S.set story.found
-
-    valid : IsValid (store_with cs [])
-    valid = folds_valid S.set.name (new_core S.set.shape S.set.limits (opens_with S.set story.found) story.found.opened) cs opens.lawful
-
-    turn : IsInTurn (λ n. None) (first_core S.set story.found)
-    turn = opened_turn (λ n. None) S.set.shape S.set.limits (opens_with S.set story.found) story.found.opened refl
-
-    stands_first : (after : List Folded) × IsStanding (judging S) (store_with cs []) (first_core S.set story.found) after
-    stands_first = laws.opens (judging S) S.set.shape (opens_with S.set story.found) story.found.opened cs names opens
-
-    stands : (before after : Events) → all_of story ≡ before ++ after → (ds : List Folded) × IsStanding (judging S) (store_with cs []) (steps (first_core S.set story.found) before) ds
-    stands before after is = go first.ended refl
-      where
-        go : (o : Option CoreFault) → first.ended ≡ o → (ds : List Folded) × IsStanding (judging S) (store_with cs []) (steps (first_core S.set story.found) before) ds
-        go (Some fault) over = subst (λ (c : Core). (ds : List Folded) × IsStanding (judging S) (store_with cs []) c ds) (sym (steps_ended first before fault over)) stands_first
-        go None going =
-            laws.events (judging S) (store_with cs []) first before stands_first.0 names valid (turn.going going) turn.told
-            (come_first (MayStand (judging S) (store_with cs [])) first before after (subst (λ xs. AllComeOn (MayStand (judging S) (store_with cs [])) first xs) is come)) stands_first.1
-
-    begins_on : (c : Core) (es : Events) → AllComeOn (MayStand (judging S) (store_with cs [])) c es → AllComeOn (MayBegin S.set.name) c es
-    begins_on c [] come = tt
-    begins_on c (e ∷ es) come = ((λ on. (let k = come.0 on in record { seated = k.seated; known = k.known; room = k.room; may = may_begin (judging S) (store_with cs []) e.0 c k.may })), begins_on (step e.0 e.1 c) es come.1)
-
-    firsts : AllByRecursion IsNoFirst (told_of (last_core S story))
-    firsts = copies_told S.set.name S.set.shape S.set.limits (opens_with S.set story.found) story.found.opened (all_of story) (begins_on first (all_of story) come)
+    start : Start
+    start = record { set = S.set; commands = S.commands; entry = entry }
 
 op_is : (o : Option Op) → IsSome o → (said : Op) × (o ≡ Some said)
 op_is None h = absurd (cc h)
@@ -177,12 +128,6 @@ op_is (Some said) h = (said, refl)
 
 none_asks : (n : ℕ) (p : Op) → asking [] n ≡ Some p → ⊥
 none_asks n p e = cc e
-
-pub begins_along : (S : Script) (story : Story) (cs : List Folded) → AllComeOn (MayStand (judging S) (store_with cs [])) (first_core S.set story.found) (all_of story)
-    → (before after : Events) → all_of story ≡ before ++ after → (steps (first_core S.set story.found) before).ended ≡ None → MayBeginAll S.set.name before (first_core S.set story.found)
-begins_along S story cs come before after is going =
-    all_begin (judging S) (store_with cs []) (first_core S.set story.found) before
-    (come_first (MayStand (judging S) (store_with cs [])) (first_core S.set story.found) before after (subst (λ xs. AllComeOn (MayStand (judging S) (store_with cs [])) (first_core S.set story.found) xs) is come)) going
 
 begin_parts : (name : List ℕ → Address) (es fs : Events) (c : Core) → MayBeginAll name (es ++ fs) c → MayBeginAll name es c × MayBeginAll name fs (steps c es)
 begin_parts name [] fs c may = (tt, may)
@@ -433,7 +378,7 @@ module _ (S : Script) (r : Ran) (story : Story) (went : Went S r story) (none : 
 
   -- ---- what a settle leaves
 
-  module _ (below : Below) (ranked : OpensRanked S.set story.found) (begins : (before after : Events) → all_of story ≡ before ++ after → (steps (first_core S.set story.found) before).ended ≡ None → MayBeginAll S.set.name before (first_core S.set story.found))
+  module _ (below : Below)
       (room : 2 * S.set.shape.shards < S.set.limits.pool) (count : ℕ) (past : IsPast r (suc count)) (settle : S.commands (suc count) ≡ Some command.Settle) where
     abbrev its : Reached (lined S r) 1 (steps (first_core S.set story.found) story.opening) story.lines count
     its = there count past
@@ -487,11 +432,11 @@ module _ (S : Script) (r : Ran) (story : Story) (went : Went S r story) (none : 
 
     leaves : IsLeft (core_behind S story (suc count)) × ((core_behind S story (suc count)).operations ≡ [])
     leaves =
-        let begin_all = begins (events_up_to story (suc count)) (flat (drop (suc count) story.lines)) (sym (parted_events story (suc count))) (going count past) in
+        let begin_all = known.begins (events_up_to story (suc count)) (flat (drop (suc count) story.lines)) (sym (parted_events story (suc count))) (going count past) in
         let parts = begin_parts S.set.name (events_up_to story count) its.events (first_core S.set story.found) (subst (λ xs. MayBeginAll S.set.name xs (first_core S.set story.found)) parted_here begin_all) in
         subst (λ (c : Core). IsLeft c × (c.operations ≡ [])) end_is
-        (settle_of_run S.set.name S.set.shape S.set.limits (opens_with S.set story.found) story.found.opened (events_up_to story count) its.events its.line ranked.shape
-        (logs S.set story.found went.found.goods ranked) parts.0 parts.1 rounds walks ends_going)
+        (settle_of_run S.set.name S.set.shape S.set.limits (opens_with S.set story.found) story.found.opened (events_up_to story count) its.events its.line known.ranked.shape
+        (logs S.set story.found went.found.goods known.ranked) parts.0 parts.1 rounds walks ends_going)
 
     opens_going : (first_core S.set story.found).ended ≡ None
     opens_going = going_from (events_up_to story (suc count)) (first_core S.set story.found) (going count past)
@@ -499,14 +444,14 @@ module _ (S : Script) (r : Ran) (story : Story) (went : Went S r story) (none : 
     pub nothing_open : IsLeft (core_behind S story (suc count)) × NothingOpen (core_behind S story (suc count))
     nothing_open =
         let stands = known.stands (events_up_to story (suc count)) (flat (drop (suc count) story.lines)) (sym (parted_events story (suc count))) in
-        let tuned = run_up (events_up_to story (suc count)) (first_core S.set story.found) (first_tuned S.set story.found went.found.goods ranked opens_going) (first_up S.set story.found went.found.goods ranked) (going count past) in
+        let tuned = run_up (events_up_to story (suc count)) (first_core S.set story.found) (first_tuned S.set story.found went.found.goods known.ranked opens_going) (first_up S.set story.found went.found.goods known.ranked) (going count past) in
         (leaves.0, left_open below (judging S) entry (core_behind S story (suc count)) stands.0 known.valid stands.1 tuned.0 leaves.0 leaves.1)
 
-  module _ (below : Below) (ranked : OpensRanked S.set story.found) (begins : (before after : Events) → all_of story ≡ before ++ after → (steps (first_core S.set story.found) before).ended ≡ None → MayBeginAll S.set.name before (first_core S.set story.found)) where
+  module _ (below : Below) where
     -- nothing is open behind it, and no peer is joining
     pub rests : 2 * S.set.shape.shards < S.set.limits.pool → (line : ℕ) → S.commands line ≡ Some command.Settle → IsPast r line → IsLeft (core_behind S story line) × NothingOpen (core_behind S story line)
     rests room zero settle past = let both : None ≡ Some command.Settle = sym none ∙ settle in absurd (cc both)
-    rests room (suc count) settle past = nothing_open below ranked begins room count past settle
+    rests room (suc count) settle past = nothing_open below room count past settle
 
     -- so each settle settles
     pub settles_each : Answers S entry r.journal → SettlesEach S entry r

@@ -1,5 +1,4 @@
 pub mod Calm
-pub mod Causes
 pub mod Counts
 pub mod Deletion
 pub mod Ending
@@ -8,5 +7,4 @@ pub mod Moving
 pub mod Noted
 pub mod Opened
 pub mod Printing
-pub mod Quiet
 pub mod Settled

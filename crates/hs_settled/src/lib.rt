@@ -26,7 +26,6 @@ mod refusals;
 mod rest;
 mod settled;
 mod short;
-mod waits;
 
 pub use causes::each_status_has_its_cause;
 pub use counts::each_core_of_a_run_counts_right;
@@ -34,14 +33,11 @@ pub use dates::notes_have_their_line;
 pub use ending::a_calm_run_ends_well;
 pub use entries::each_entry_stands_for_its_cause;
 pub use failures::a_failed_disk_is_told_once;
-pub use first::{the_first_shard_enters_for_a_line, the_first_shard_of_copies_enters_for_a_line};
+pub use first::the_first_shard_enters_for_a_line;
 pub use full::a_full_journal_deletes_as_promised;
 pub use going::each_operation_goes_on;
 pub use good::a_peer_is_good_until_it_is_told;
-pub use kept::{
-    a_run_keeps_the_rule_of_done, each_event_keeps_the_rule_of_done,
-    each_front_of_a_run_keeps_the_rule_of_done,
-};
+pub use kept::{a_run_keeps_the_rule_of_done, each_event_keeps_the_rule_of_done};
 pub use led::shard_0_is_led_by_lines;
 pub use machine::a_core_counts_right;
 pub use note_ends::a_note_ends_the_run;
@@ -55,4 +51,3 @@ pub use refusals::a_refusal_comes_where_its_row_says;
 pub use rest::a_settle_comes_to_rest;
 pub use settled::each_settle_settles;
 pub use short::a_calm_journal_is_short;
-pub use waits::{each_entry_is_to_be_sealed, nothing_waits_where_no_job_is_left};

@@ -43,7 +43,7 @@ use Rattle.hs_promise.specs.Story.{Story, all_events}
 use Rattle.hs_promise.specs.Untold.{NoneFails}
 use Rattle.hs_script.specs.Reading.{commands}
 use Rattle.hs_side.specs.declared.header.Header.{Header}
-use Rattle.hs_standing.specs.Run.{MayRun, RunOpens}
+use Rattle.hs_standing.specs.Run.{MayRun, RunBegins}
 use Rattle.hs_standing.specs.Standing.{AllMayKeep}
 
 -- what a peer is to read is in what is sealed of its list
@@ -59,10 +59,10 @@ pub record Laws : Type 0 where
   pub keeps : (S : Script) (r : Ran) → IsToldRun S r → IsSoundAtEntry S r → KeepsAlong S (entry_store S r) r
   pub stops : (S : Script) (r : Ran) → IsToldRun S r → MayStop S r → Stops S (entry_store S r) r
   -- deletion
-  pub opens : (S : Script) (r : Ran) (story : Story) → OnDisks S r → IsShown S r story → IsSoundAtEntry S r → (first_core S.set story.found).ended ≡ None → RunOpens (start_of S r) story.found
+  pub opens : (S : Script) (r : Ran) (story : Story) → OnDisks S r → IsShown S r story → IsSoundAtEntry S r → (first_core S.set story.found).ended ≡ None → RunBegins (start_of S r) story.found
   pub stands : (S : Script) (r : Ran) (story : Story) → OnDisks S r → IsShown S r story → IsSoundAtEntry S r → (first_core S.set story.found).ended ≡ None
       → AllMayKeep (start_of S r) (MayRun (start_of S r)) (first_core S.set story.found) (all_events story)
-  pub deletes : (S : Script) (r : Ran) (story : Story) → Went S r story → RunOpens (start_of S r) story.found
+  pub deletes : (S : Script) (r : Ran) (story : Story) → Went S r story → RunBegins (start_of S r) story.found
       → AllMayKeep (start_of S r) (MayRun (start_of S r)) (first_core S.set story.found) (all_events story) → Deletes S (entry_store S r) r
   pub deletes_ended : (S : Script) (r : Ran) (story : Story) (fault : CoreFault) → Went S r story → (first_core S.set story.found).ended ≡ Some fault → Deletes S (entry_store S r) r
   pub deletes_never : (S : Script) (r : Ran) → NeverOpened r → Deletes S (entry_store S r) r
@@ -91,17 +91,17 @@ pub record Laws : Type 0 where
   pub notes_never : (S : Script) (r : Ran) → NeverOpened r → ((disk : ℕ) → faults_at r.old.disk_faults disk ≤ faults_at r.new.disk_faults disk) → NotesCause S r
   pub stored : StoresBlocks
   -- settles
-  pub settles : (S : Script) (r : Ran) (story : Story) → Went S r story → S.commands 0 ≡ None → RunOpens (start_of S r) story.found
+  pub settles : (S : Script) (r : Ran) (story : Story) → Went S r story → S.commands 0 ≡ None → RunBegins (start_of S r) story.found
       → AllMayKeep (start_of S r) (MayRun (start_of S r)) (first_core S.set story.found) (all_events story) → Answers S (entry_store S r) r.journal
       → SettlesEach S (entry_store S r) r
   -- ends
   pub valid : (S : Script) (r : Ran) → IsSoundAtEntry S r → IsValid (entry_store S r)
-  pub whole : (S : Script) (r : Ran) (story : Story) → Went S r story → RunOpens (start_of S r) story.found
+  pub whole : (S : Script) (r : Ran) (story : Story) → Went S r story → RunBegins (start_of S r) story.found
       → AllMayKeep (start_of S r) (MayRun (start_of S r)) (first_core S.set story.found) (all_events story) → Deletes S (entry_store S r) (whole_of r)
   pub whole_ended : (S : Script) (r : Ran) (story : Story) (fault : CoreFault) → Went S r story → (first_core S.set story.found).ended ≡ Some fault
       → Deletes S (entry_store S r) (whole_of r)
   pub whole_never : (S : Script) (r : Ran) → NeverOpened r → Deletes S (entry_store S r) (whole_of r)
-  pub led : (S : Script) (r : Ran) (story : Story) → Went S r story → RunOpens (start_of S r) story.found
+  pub led : (S : Script) (r : Ran) (story : Story) → Went S r story → RunBegins (start_of S r) story.found
       → AllMayKeep (start_of S r) (MayRun (start_of S r)) (first_core S.set story.found) (all_events story) → AreLed (r.journal ++ r.refused)
   pub led_ended : (S : Script) (r : Ran) (story : Story) (fault : CoreFault) → Went S r story → (first_core S.set story.found).ended ≡ Some fault
       → AreLed (r.journal ++ r.refused)

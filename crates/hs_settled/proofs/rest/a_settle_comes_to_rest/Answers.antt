@@ -1,11 +1,11 @@
-use Rattle.hs_answered.specs.Standing.{store_with}
+use Rattle.hs_promise.specs.Entry.{entry_store}
 use Rattle.hs_quiet.proofs.SweptLemmas.{Below}
-use Rattle.hs_settled.proofs.AnsweredLemmas.{Told, along, begins_along, rests}
+use Rattle.hs_settled.proofs.AnsweredLemmas.{along, rests}
+use Rattle.hs_settled.proofs.BegunLemmas.{Told}
 use Rattle.hs_settled.proofs.rest.a_settle_comes_to_rest.Goals as goal
-use Rattle.std.specs.Prelude.{[]}
 
 pub returns : goal.returns
-returns c = λ S r story cs line went none ranked names opens come room settle past.
+returns c = λ S r story line went none begins may room settle past.
     let told : Told = record { opens = c.each_event_is_told.ensures.opens; events = c.each_event_is_told.ensures.events } in
     let below : Below = record { joined = c.folds_follow_the_machine.ensures.joined; step = c.rounds_run_in_step.ensures.step; on = c.a_run_goes_on.ensures.on } in
-    rests S r story went none (store_with cs []) (along told S story cs names opens come) below ranked (begins_along S story cs come) room line settle past
+    rests S r story went none (entry_store S r) (along told c.catalogues_in_memory_are_folds.ensures.list S (entry_store S r) story begins may) below room line settle past
