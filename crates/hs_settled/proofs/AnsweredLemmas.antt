@@ -1,35 +1,43 @@
--- A settle behind which nothing is nothing has answered all earlier lines, and leaves the store level.
-use Rattle.std.proofs.Common.{◌≡◌, ◌∙◌, ◌⊎◌, inl, inr, sym, ap, subst, ℕ, zero, suc, ◌+◌, ◌*◌, ◌<◌, ◌≤◌, ◌++◌, ◌-◌, ◌||◌, true, false, not, is_none, List, [], ◌∷◌, Option, Some, None, IsSome, refl, length, arith, slice_get, take, drop, take-append-drop, append-nil, append_assoc, length-append}
+-- A settle that was gone past leaves nothing open; it has answered all earlier lines, and leaves the store level.
+use Rattle.std.proofs.Common.{◌≡◌, ◌∙◌, ◌⊎◌, inl, inr, sym, ap, subst, ℕ, zero, suc, ◌+◌, ◌*◌, ◌<◌, ◌≤◌, ◌++◌, ◌-◌, true, false, List, [], ◌∷◌, Option, Some, None, IsSome, refl, length, arith, slice_get, take, drop, take-append-drop, append-nil, append_assoc, length-append}
 use Rattle.std.proofs.lemmas.Bool.{cases_eq}
 use Rattle.std.proofs.lemmas.Grind.{flat_map-append}
 use Rattle.std.specs.List.{AllByRecursion}
-use Rattle.std.specs.Option.{option_map_or}
 use Rattle.std.specs.Prelude.{flat_map}
 use Rattle.hs_answered.specs.Telling.{Judging, events_in}
 use Rattle.hs_settled.proofs.AskLemmas.{opening_due}
 use Rattle.hs_settled.proofs.CausesFirstLemmas.{line_first}
-use Rattle.hs_settled.proofs.CausesRunLemmas.{all_ask_so, all_come_so, flat_is, mute, opened_kept}
+use Rattle.hs_settled.proofs.CausesRunLemmas.{flat_is, mute}
+use Rattle.hs_core_words.specs.Looking.{shape_of}
 use Rattle.hs_core_words.specs.State.{Core}
 use Rattle.hs_core_words.specs.Step.{step}
 use Rattle.hs_settled.proofs.RuleLemmas.{all_front}
-use Rattle.hs_settled.proofs.DeletesRunLemmas.{Running}
+use Rattle.hs_settled.proofs.BegunLemmas.{Told, begin_all, ranked, stands, valid}
+use Rattle.hs_effects.specs.Logged.{MayBeginAll}
 use Rattle.hs_events.proofs.RunLemmas.{steps_append}
 use Rattle.hs_events.specs.Commands.{AreOfLine}
 use Rattle.hs_events.specs.Course.{steps}
-use Rattle.hs_events.specs.declared.due.Due.{Due}
-use Rattle.hs_events.specs.Due.{Events, Walked, first_place, is_walk, next_due, walk}
+use Rattle.hs_events.specs.Due.{Events, is_walk, next_due}
 use Rattle.hs_events.specs.Found.{first_core, opens_with}
-use Rattle.hs_events.specs.Whole.{Whole, open_whole, step_whole}
-use Rattle.hs_settled.specs.Causes.{NothingWaits}
-use Rattle.hs_settled.specs.Moving.{IsMoving}
+use Rattle.hs_fold.specs.Runs.Facts.{Catalogue as Folded}
 use Rattle.hs_journal.specs.declared.entry.JournalEntry.{JournalEntry}
 use Rattle.hs_journal.specs.declared.entry.Who.TheVariants as who
 use Rattle.hs_journal.specs.Events.{client_op}
 use Rattle.hs_journal.specs.Order.{IsOfLine}
 use Rattle.hs_journal.specs.Telling.{IsAnsweredBefore, IsFirstAbove}
 use Rattle.hs_laws.specs.Kept.{IsLevel}
+use Rattle.hs_laws.specs.Valid.{IsValid}
+use Rattle.hs_limits.specs.declared.address.Address.{Address}
+use Rattle.hs_limits.specs.declared.limits.Limits.{Limits}
+use Rattle.hs_limits.specs.declared.shape.Shape.{Shape}
 use Rattle.hs_standing.specs.Telling.{told_so_far}
 use Rattle.hs_standing.proofs.LinesLineLemmas.{first_next}
+use Rattle.hs_standing.proofs.ValidLemmas.{told_valid}
+use Rattle.hs_standing.proofs.TakenLemmas.{FoldsInMemory}
+use Rattle.hs_standing.specs.Run.{MayRun, RunBegins}
+use Rattle.hs_standing.specs.Standing.{AllMayKeep}
+use Rattle.hs_standing.specs.Start.{Start}
+use Rattle.hs_standing.specs.Legal.{IsStanding}
 use Rattle.hs_standing.specs.Script.{AreLines, IsNext, all_events}
 use Rattle.hs_model.specs.declared.command.Command.{Command}
 use Rattle.hs_model.specs.declared.command.Command.TheVariants as command
@@ -37,45 +45,33 @@ use Rattle.hs_model.specs.declared.op.Op.{Op}
 use Rattle.hs_model.specs.Run.{IsLegal, run}
 use Rattle.hs_model.specs.Store.{Store}
 use Rattle.hs_moments.proofs.JournalLemmas.{journal_after}
-use Rattle.hs_moments.specs.Machine.{runs}
-use Rattle.hs_moments.specs.WholeMachine.{whole_machine}
 use Rattle.hs_promise.specs.Answers.{Answers, store_before}
 use Rattle.hs_promise.specs.Completes.{Settles, SettlesEach}
 use Rattle.hs_promise.specs.Ending.{ending_of}
-use Rattle.hs_promise.specs.Entry.{entry_store}
 use Rattle.hs_promise.specs.Lost.{IsPast}
 use Rattle.hs_promise.specs.Machine.{Went, opening_is_whole}
 use Rattle.hs_promise.specs.Run.{Ran, Script}
 use Rattle.hs_promise.specs.Story.{Story, all_events as all_of, last_core}
-use Rattle.hs_standing.proofs.ValidLemmas.{told_valid}
-use Rattle.hs_settled.proofs.EndLemmas.{Ended, Going, all_begin, nothing_waits, same_steps, walk_core, walk_ended}
+use Rattle.hs_quiet.proofs.KeptRoundsLemmas.{have_rounds}
+use Rattle.hs_quiet.proofs.NothingLemmas.{left_open}
+use Rattle.hs_quiet.proofs.RunLemmas.{going_before as going_from, run_up}
+use Rattle.hs_quiet.proofs.StoryLemmas.{settle_of_run}
+use Rattle.hs_quiet.proofs.SweptLemmas.{Below}
+use Rattle.hs_quiet.specs.Settled.{HaveRounds, IsLeft}
 use Rattle.hs_settled.proofs.FirstLemmas.{run_told}
-use Rattle.hs_settled.proofs.LastLemmas.{AllRoomy, Turns as TurnsLaw, all_roomy, keep_rest, open_or_quiet, roomy_front, roomy_rest, settle_walk}
 use Rattle.hs_settled.proofs.LevelLemmas.{IsCalm, Level, le_or, legal_front, level_along}
 use Rattle.hs_settled.proofs.LineLemmas.{Reached, going_before, joined, lined, reached}
 use Rattle.hs_settled.proofs.ListLemmas.{all_at, all_take, at_within, get_back, get_front, take_all, take_back}
+use Rattle.hs_settled.proofs.LossLemmas.{first_tuned, first_up, logs}
 use Rattle.hs_settled.proofs.OpenLemmas.{none_ask, open_level}
-use Rattle.hs_settled.proofs.QuietLemmas.{Below}
-use Rattle.hs_settled.proofs.RestLemmas.{quiet_open}
-use Rattle.hs_settled.proofs.WalkLemmas.{Inv, quiet_none}
-use Rattle.hs_settled.specs.Quiet.{IsQuiet}
+use Rattle.hs_settled.proofs.StartedLemmas.{there_kept}
+use Rattle.hs_settled.specs.Opened.{OpensRanked}
 use Rattle.hs_settled.specs.Settled.{IsNoFirst, NothingOpen, core_behind, events_up_to}
-use Rattle.hs_standing.specs.Run.{IsRunning, MayRun, RunOpens}
-use Rattle.hs_standing.specs.Standing.{AllMayKeep, judging_of}
-use Rattle.hs_standing.specs.Start.{Start}
-use Rattle.hs_told.specs.InTurn.{told_of}
+use Rattle.hs_told.specs.InTurn.{IsInTurn, told_of}
 use Rattle.hs_told.specs.Part.{asking}
 use Rattle.hs_told.specs.Turns.{Turns}
 
 -- ---- some events, and those behind them
-
-runs_core : (c : Whole) (es : Events) → (runs whole_machine c es).core ≡ steps c.core es
-runs_core c [] = refl
-runs_core c (e ∷ es) = runs_core (step_whole e.0 e.1 c) es
-
-keep_front : (start : Start) (core : Core) (es fs : Events) → AllMayKeep start (MayRun start) core (es ++ fs) → AllMayKeep start (MayRun start) core es
-keep_front start core [] fs may = tt
-keep_front start core (e ∷ es) fs may = (may.0, keep_front start (step e.0 e.1 core) es fs may.1)
 
 record More (core : Core) (es : Events) : Type 0 where
   more : List JournalEntry
@@ -98,8 +94,33 @@ parted_events story line =
     ∙ ap (λ (es : Events). story.opening ++ es) (sym (flat_map-append (λ (events : Events). events) (take line story.lines) (drop line story.lines)))
     ∙ ap (λ (ls : List Events). story.opening ++ flat ls) (take-append-drop line story.lines)
 
-abbrev pub start_at : Script → Ran → Start
-start_at S r = record { set = S.set; commands = S.commands; entry = entry_store S r }
+-- by what the journal of a script is judged
+abbrev pub judging : Script → Judging
+judging S = record { commands = S.commands; name = S.set.name; limits = S.set.limits }
+
+-- ---- what is known of the events of a run
+
+-- from a valid store on the core stands behind each front of them, its lines are new, and it tells of no Enter of shard 0 by itself; a shard whose list has no entry has had no view
+pub record StandsAlong (S : Script) (story : Story) (entry : Store) : Type 0 where
+  pub valid : IsValid entry
+  pub ranked : OpensRanked S.set story.found
+  pub stands : (before after : Events) → all_of story ≡ before ++ after → (cs : List Folded) × IsStanding (judging S) entry (steps (first_core S.set story.found) before) cs
+  pub begins : (before after : Events) → all_of story ≡ before ++ after → (steps (first_core S.set story.found) before).ended ≡ None → MayBeginAll S.set.name before (first_core S.set story.found)
+  pub first : AllByRecursion IsNoFirst (told_of (last_core S story))
+
+-- so it is of a run over sound lists
+pub along : Told → FoldsInMemory → (S : Script) (entry : Store) (story : Story) → RunBegins (record { set = S.set; commands = S.commands; entry = entry }) story.found
+    → AllMayKeep (record { set = S.set; commands = S.commands; entry = entry }) (MayRun (record { set = S.set; commands = S.commands; entry = entry })) (first_core S.set story.found) (all_of story) → StandsAlong S story entry
+along told memory S entry story b may = record {
+  valid = valid start story.found b memory;
+  ranked = ranked start story.found b;
+  stands = stands start story.found b memory (all_of story) may told;
+  begins = begin_all start story.found b memory (all_of story) may;
+  first = run_told memory start story.found (all_of story) b may;
+}
+  where
+    start : Start
+    start = record { set = S.set; commands = S.commands; entry = entry }
 
 op_is : (o : Option Op) → IsSome o → (said : Op) × (o ≡ Some said)
 op_is None h = absurd (cc h)
@@ -108,8 +129,19 @@ op_is (Some said) h = (said, refl)
 none_asks : (n : ℕ) (p : Op) → asking [] n ≡ Some p → ⊥
 none_asks n p e = cc e
 
-module _ (S : Script) (r : Ran) (story : Story) (went : Went S r story) (none : S.commands 0 ≡ None) (running : Running) (opens : RunOpens (start_at S r) story.found)
-    (may : AllMayKeep (start_at S r) (MayRun (start_at S r)) (first_core S.set story.found) (all_of story)) where
+begin_parts : (name : List ℕ → Address) (es fs : Events) (c : Core) → MayBeginAll name (es ++ fs) c → MayBeginAll name es c × MayBeginAll name fs (steps c es)
+begin_parts name [] fs c may = (tt, may)
+begin_parts name (e ∷ es) fs c may = let rest = begin_parts name es fs (step e.0 e.1 c) may.1 in ((may.0, rest.0), rest.1)
+
+-- the commands of a run are those without line 0, which has none
+mute_same : (commands : ℕ → Option Command) → commands 0 ≡ None → mute commands ≡ commands
+mute_same commands none = λ i n. at n i
+  where
+    at : (n : ℕ) → mute commands n ≡ commands n
+    at zero = sym none
+    at (suc n) = refl
+
+module _ (S : Script) (r : Ran) (story : Story) (went : Went S r story) (none : S.commands 0 ≡ None) (entry : Store) (known : StandsAlong S story entry) where
   abbrev first : Core
   first = first_core S.set story.found
 
@@ -164,32 +196,16 @@ module _ (S : Script) (r : Ran) (story : Story) (went : Went S r story) (none : 
             let last : suc count ≡ length story.lines = (let l = low in omega (arith, l, all)) in
             ap (λ (ls : List Events). (steps first (story.opening ++ flat ls)).ended) (ap (λ n. take n story.lines) last ∙ take_all story.lines) ∙ went.ends.past (gone last)
 
-    -- a settle that was gone past has come to its end
-    pub comes_to_end : S.commands (suc count) ≡ Some command.Settle → Ended (core_behind S story (suc count))
-    comes_to_end settle =
-        subst (λ (c : Core). Ended c) (sym (behind_is (suc count) ∙ there.behind))
-        (walk_ended there.line there.at there.events (subst (λ (c : Option Command). AreOfLine S.set.name (record { line = there.line; core = there.at; events = there.events; whole = true }) c) said there.here.events))
-      where
-        said : S.commands there.line ≡ Some command.Settle
-        said = ap (λ n. S.commands n) (let e = there.is in same e) ∙ settle
-          where
-            same : there.line ≡ 1 + count → there.line ≡ suc count
-            same e = omega (arith, e)
-
     abbrev E : Core
     E = core_behind S story (suc count)
 
-    abbrev pub state : Whole
-    state = runs whole_machine (open_whole S.set story.found) (events_up_to story (suc count))
+    -- its events so far, and the others
+    split : story.opening ++ all_events story.lines ≡ events_up_to story (suc count) ++ flat (drop (suc count) story.lines)
+    split = ap (λ es. story.opening ++ es) (sym (flat_is story.lines)) ∙ sym (parted_events story (suc count))
 
-    state_core : (runs whole_machine (open_whole S.set story.found) (events_up_to story (suc count))).core ≡ core_behind S story (suc count)
-    state_core = runs_core (open_whole S.set story.found) (events_up_to story (suc count))
-
-    pub stands : IsRunning (start_at S r) (runs whole_machine (open_whole S.set story.found) (events_up_to story (suc count)))
-    stands = running.goes_on (start_at S r) (open_whole S.set story.found) (events_up_to story (suc count)) (running.opens (start_at S r) story.found opens)
-        (keep_front (start_at S r) first (events_up_to story (suc count)) (flat (drop (suc count) story.lines))
-        (subst (λ (es : Events). AllMayKeep (start_at S r) (MayRun (start_at S r)) first es) (sym (parted_events story (suc count))) may))
-        going
+    turn : IsInTurn S.commands (core_behind S story (suc count))
+    turn = subst (λ (c : ℕ → Option Command). IsInTurn c (core_behind S story (suc count))) (mute_same S.commands none)
+        (there_kept S r story went (events_up_to story (suc count)) (flat (drop (suc count) story.lines)) split).turn
 
     -- what the run answered behind it
     rest : More (core_behind S story (suc count)) (flat (drop (suc count) story.lines))
@@ -203,17 +219,16 @@ module _ (S : Script) (r : Ran) (story : Story) (went : Went S r story) (none : 
         ∙ rest.is
 
     clean : (core_behind S story (suc count)).refused ≡ []
-    clean = subst (λ (c : Core). c.refused ≡ []) state_core (stands.stands.whole.turn.going stands.stands.whole.sane.going)
+    clean = turn.going going
 
     quiet : (core_behind S story (suc count)).entries ≡ []
-    quiet = subst (λ (c : Core). c.entries ≡ []) state_core stands.stands.whole.turn.told
+    quiet = turn.told
 
     told_is : told_of (core_behind S story (suc count)) ≡ (core_behind S story (suc count)).journal
     told_is = ap (λ (es : List JournalEntry). E.journal ++ es) clean ∙ append-nil E.journal
 
     turns : Turns S.commands (E.progress.event_line + 1) E.moment (core_behind S story (suc count)).journal (asking E.operations)
-    turns = subst (λ (es : List JournalEntry). Turns S.commands (E.progress.event_line + 1) E.moment es (asking E.operations)) told_is
-        (subst (λ (c : Core). Turns S.commands (c.progress.event_line + 1) c.moment (told_of c) (asking c.operations)) state_core stands.stands.whole.turn.turns)
+    turns = subst (λ (es : List JournalEntry). Turns S.commands (E.progress.event_line + 1) E.moment es (asking E.operations)) told_is turn.turns
 
     -- an entry below is of no later line
     front_at : (i : ℕ) (n : ℕ) → i < length E.journal → IsOfLine r.journal i n → IsOfLine (core_behind S story (suc count)).journal i n
@@ -271,22 +286,19 @@ module _ (S : Script) (r : Ran) (story : Story) (went : Went S r story) (none : 
       -- ---- the store is level
 
       abbrev by : Judging
-      by = judging_of (start_at S r)
+      by = judging S
 
       told_all : told_so_far (core_behind S story (suc count)) ≡ (core_behind S story (suc count)).journal
       told_all = ap (λ (es : List JournalEntry). told_of E ++ es) quiet ∙ append-nil (told_of E) ∙ told_is
 
-      level_here : Level (run S.set.limits (entry_store S r) (events_in (judging_of (start_at S r)) (entry_store S r) (core_behind S story (suc count)).journal))
-      level_here = subst (λ (es : List JournalEntry). Level (run S.set.limits (entry_store S r) (events_in by (entry_store S r) es))) told_all
-          (subst (λ (c : Core). NothingOpen c → Level (run S.set.limits (entry_store S r) (events_in by (entry_store S r) (told_so_far c)))) state_core at_state nothing)
-        where
-          at_state : NothingOpen state.core → Level (run S.set.limits (entry_store S r) (events_in by (entry_store S r) (told_so_far state.core)))
-          at_state nothing =
-              let its = stands.stands.holds in
-              subst (λ (s : Store). Level s) (sym its.tells.left)
-              (open_level state.core stands.stands.whole.cs its.lawful.folded (told_valid by (entry_store S r) (told_so_far state.core) _ stands.valid its.tells) nothing)
+      level_here : Level (run S.set.limits entry (events_in (judging S) entry (core_behind S story (suc count)).journal))
+      level_here =
+          let its = known.stands (events_up_to story (suc count)) (flat (drop (suc count) story.lines)) (sym (parted_events story (suc count))) in
+          subst (λ (es : List JournalEntry). Level (run S.set.limits entry (events_in by entry es))) told_all
+          (subst (λ (s : Store). Level s) (sym its.1.tells.left)
+          (open_level E its.0 its.1.lawful.folded (told_valid by entry (told_so_far E) _ known.valid its.1.tells) nothing))
 
-      module _ (answers : Answers S (entry_store S r) r.journal) (settle : S.commands (suc count) ≡ Some command.Settle) (place : ℕ) (above : IsFirstAbove r.journal (suc count) place) where
+      module _ (answers : Answers S entry r.journal) (settle : S.commands (suc count) ≡ Some command.Settle) (place : ℕ) (above : IsFirstAbove r.journal (suc count) place) where
         journal_long : length r.journal ≡ length E.journal + length rest.more
         journal_long = ap (λ (es : List JournalEntry). length es) journal_is ∙ length-append E.journal rest.more
 
@@ -311,7 +323,7 @@ module _ (S : Script) (r : Ran) (story : Story) (went : Went S r story) (none : 
         taken_is = ap (λ (es : List JournalEntry). take place es) journal_is ∙ take_back E.journal rest.more place k place_is
 
         firsts : AllByRecursion IsNoFirst r.journal
-        firsts = subst (λ (es : List JournalEntry). AllByRecursion IsNoFirst es) (sym went.journal) (all_front IsNoFirst (last_core S story).journal (last_core S story).refused (run_told running (start_at S r) story.found (all_of story) opens may))
+        firsts = subst (λ (es : List JournalEntry). AllByRecursion IsNoFirst es) (sym went.journal) (all_front IsNoFirst (last_core S story).journal (last_core S story).refused known.first)
 
         calm_at : (i : ℕ) (x : JournalEntry) → i < k → slice_get rest.more i ≡ Some x → IsCalm S.commands x
         calm_at i x less at = record { nobody = of_nobody; first = all_at IsNoFirst r.journal j x here firsts }
@@ -347,105 +359,48 @@ module _ (S : Script) (r : Ran) (story : Story) (went : Went S r story) (none : 
                 by_op None e = e
                 by_op (Some o) e = absurd (by_line o e (le_or n (suc count)))
 
-        level : IsLevel (store_before S (entry_store S r) r.journal place)
-        level = subst (λ (es : List JournalEntry). IsLevel (run S.set.limits (entry_store S r) (events_in by (entry_store S r) es))) (sym taken_is)
-            (level_along by (entry_store S r) E.journal (take k rest.more) (all_take (IsCalm S.commands) k rest.more calm_at) legal level_here).level
+        level : IsLevel (store_before S entry r.journal place)
+        level = subst (λ (es : List JournalEntry). IsLevel (run S.set.limits entry (events_in by entry es))) (sym taken_is)
+            (level_along by entry E.journal (take k rest.more) (all_take (IsCalm S.commands) k rest.more calm_at) legal level_here).level
           where
-            legal : IsLegal S.set.limits (entry_store S r) (events_in by (entry_store S r) (E.journal ++ take k rest.more))
-            legal = subst (λ (es : List JournalEntry). IsLegal S.set.limits (entry_store S r) (events_in by (entry_store S r) es)) taken_is
-                (legal_front by (entry_store S r) (take place r.journal) (drop place r.journal)
-                (subst (λ (es : List JournalEntry). IsLegal S.set.limits (entry_store S r) (events_in by (entry_store S r) es)) (sym (take-append-drop place r.journal)) answers.legal))
+            legal : IsLegal S.set.limits entry (events_in by entry (E.journal ++ take k rest.more))
+            legal = subst (λ (es : List JournalEntry). IsLegal S.set.limits entry (events_in by entry es)) taken_is
+                (legal_front by entry (take place r.journal) (drop place r.journal)
+                (subst (λ (es : List JournalEntry). IsLegal S.set.limits entry (events_in by entry es)) (sym (take-append-drop place r.journal)) answers.legal))
 
-      pub settles_past : Answers S (entry_store S r) r.journal → S.commands (suc count) ≡ Some command.Settle → Settles S (entry_store S r) r (suc count)
+      pub settles_past : Answers S entry r.journal → S.commands (suc count) ≡ Some command.Settle → Settles S entry r (suc count)
       settles_past answers settle = record { answered = answered; level = λ place above. level answers settle place above }
 
   -- of any line
-  pub settles : (line : ℕ) → Answers S (entry_store S r) r.journal → S.commands line ≡ Some command.Settle → IsPast r line → NothingOpen (core_behind S story line) → Settles S (entry_store S r) r line
+  pub settles : (line : ℕ) → Answers S entry r.journal → S.commands line ≡ Some command.Settle → IsPast r line → NothingOpen (core_behind S story line) → Settles S entry r line
   settles zero answers settle past nothing = let both : None ≡ Some command.Settle = sym none ∙ settle in absurd (cc both)
   settles (suc count) answers settle past nothing = settles_past count past nothing answers settle
 
-  -- ---- what is left open
+  -- ---- what a settle leaves
 
-  pub ends : (line : ℕ) → S.commands line ≡ Some command.Settle → IsPast r line → Ended (core_behind S story line)
-  ends zero settle past = let both : None ≡ Some command.Settle = sym none ∙ settle in absurd (cc both)
-  ends (suc count) settle past = comes_to_end count past settle
-
-  going_past : (line : ℕ) → S.commands line ≡ Some command.Settle → IsPast r line → (core_behind S story line).ended ≡ None
-  going_past zero settle past = let both : None ≡ Some command.Settle = sym none ∙ settle in absurd (cc both)
-  going_past (suc count) settle past = going count past
-
-  may_so_far : (line : ℕ) → AllMayKeep (start_at S r) (MayRun (start_at S r)) (first_core S.set story.found) (events_up_to story line)
-  may_so_far line =
-      keep_front (start_at S r) first (events_up_to story line) (flat (drop line story.lines))
-      (subst (λ (es : Events). AllMayKeep (start_at S r) (MayRun (start_at S r)) first es) (sym (parted_events story line)) may)
-
-  pub rests : Going → (line : ℕ) → S.commands line ≡ Some command.Settle → IsPast r line → NothingWaits (core_behind S story line)
-  rests laws line settle past = nothing_waits laws (start_at S r) story.found (events_up_to story line) opens (may_so_far line) (going_past line settle past) (ends line settle past)
-
-  pub stands_past : (line : ℕ) → S.commands line ≡ Some command.Settle → IsPast r line → IsRunning (start_at S r) (runs whole_machine (open_whole S.set story.found) (events_up_to story line))
-  stands_past zero settle past = let both : None ≡ Some command.Settle = sym none ∙ settle in absurd (cc both)
-  stands_past (suc count) settle past = stands count past
-
-  -- and quiet, it settles
-  pub quiet_settles : Going → Below → (line : ℕ) → Answers S (entry_store S r) r.journal → S.commands line ≡ Some command.Settle → IsPast r line → IsQuiet (core_behind S story line) → Settles S (entry_store S r) r line
-  quiet_settles laws below line answers settle past quiet =
-      settles line answers settle past
-      (subst (λ (c : Core). NothingWaits c → IsQuiet c → NothingOpen c) (runs_core (open_whole S.set story.found) (events_up_to story line))
-      (λ waits still. quiet_open below (start_at S r) (runs whole_machine (open_whole S.set story.found) (events_up_to story line)) (stands_past line settle past) waits still)
-      (rests laws line settle past) quiet)
-
-  -- ---- where the pool has room
-
-  module _ (laws : Going) (turns : TurnsLaw) (room : 2 * S.set.shape.shards < S.set.limits.pool) (count : ℕ) (past : IsPast r (suc count)) (settle : S.commands (suc count) ≡ Some command.Settle) where
-    abbrev its : Reached (lined S r) 1 begun story.lines count
+  module _ (below : Below)
+      (room : 2 * S.set.shape.shards < S.set.limits.pool) (count : ℕ) (past : IsPast r (suc count)) (settle : S.commands (suc count) ≡ Some command.Settle) where
+    abbrev its : Reached (lined S r) 1 (steps (first_core S.set story.found) story.opening) story.lines count
     its = there count past
-
-    abbrev c0 : Whole
-    c0 = runs whole_machine (open_whole S.set story.found) (events_up_to story count)
-
-    c0_core : (runs whole_machine (open_whole S.set story.found) (events_up_to story count)).core ≡ core_behind S story count
-    c0_core = runs_core (open_whole S.set story.found) (events_up_to story count)
 
     at_is : (there count past).at ≡ core_behind S story count
     at_is = its.before ∙ sym (behind_is count)
-
-    going_at : (core_behind S story count).ended ≡ None
-    going_at = subst (λ (c : Core). c.ended ≡ None) at_is its.here.going
-
-    run0 : IsRunning (start_at S r) (runs whole_machine (open_whole S.set story.found) (events_up_to story count))
-    run0 = running.goes_on (start_at S r) (open_whole S.set story.found) (events_up_to story count) (running.opens (start_at S r) story.found opens) (may_so_far count) going_at
-
-    moving0 : IsMoving S.set.name (runs whole_machine (open_whole S.set story.found) (events_up_to story count))
-    moving0 =
-        laws.events S.set.name (open_whole S.set story.found) (events_up_to story count) (laws.opened S.set.name S.set story.found opens.shape opens.well.one opens.well.going opens.well.lists opens.well.many)
-        (all_begin (start_at S r) first (events_up_to story count) (may_so_far count) going_at) (ap (λ (c : Core). c.ended) (same_steps first (events_up_to story count)) ∙ going_at)
 
     parted_here : events_up_to story (suc count) ≡ events_up_to story count ++ (there count past).events
     parted_here =
         ap (λ (es : Events). story.opening ++ es) (flat_is (take (suc count) story.lines) ∙ its.parted ∙ ap (λ (es : Events). es ++ its.events) (sym (flat_is (take count story.lines))))
         ∙ sym (append_assoc story.opening (flat (take count story.lines)) its.events)
 
-    may_here : AllMayKeep (start_at S r) (MayRun (start_at S r)) (core_behind S story count) (there count past).events
-    may_here =
-        keep_rest (start_at S r) first (events_up_to story count) its.events
-        (subst (λ (es : Events). AllMayKeep (start_at S r) (MayRun (start_at S r)) first es) parted_here (may_so_far (suc count)))
-
-    roomy_all : AllRoomy (first_core S.set story.found) (all_of story)
-    roomy_all =
-        subst (λ (es : Events). AllRoomy first (story.opening ++ es)) (sym (flat_is story.lines))
-        (all_roomy (mute S.commands) S.set.shape S.set.limits first (story.opening ++ all_events story.lines) (opened_kept S r story went) (all_come_so S r story went) (all_ask_so S r story went))
-
-    roomy_here : AllRoomy (core_behind S story count) (there count past).events
-    roomy_here =
-        roomy_rest first (events_up_to story count) its.events
-        (subst (λ (es : Events). AllRoomy first es) parted_here
-        (roomy_front first (events_up_to story (suc count)) (flat (drop (suc count) story.lines)) (subst (λ (es : Events). AllRoomy first es) (sym (parted_events story (suc count))) roomy_all)))
-
     end_is : steps (core_behind S story count) (there count past).events ≡ core_behind S story (suc count)
     end_is = ap (λ (c : Core). steps c its.events) (sym at_is) ∙ sym (behind_is (suc count) ∙ its.behind)
 
-    walks : is_walk next_due true (there count past).line (there count past).at (there count past).events ≡ true
-    walks = subst (λ (c : Option Command). AreOfLine S.set.name (record { line = its.line; core = its.at; events = its.events; whole = true }) c) said its.here.events
+    ends_going : (steps (core_behind S story count) (there count past).events).ended ≡ None
+    ends_going = ap (λ (c : Core). c.ended) end_is ∙ going count past
+
+    walks : is_walk next_due true (there count past).line (core_behind S story count) (there count past).events ≡ true
+    walks =
+        subst (λ (c : Core). is_walk next_due true its.line c its.events ≡ true) at_is
+        (subst (λ (c : Option Command). AreOfLine S.set.name (record { line = its.line; core = its.at; events = its.events; whole = true }) c) said its.here.events)
       where
         said : S.commands its.line ≡ Some command.Settle
         said = ap (λ n. S.commands n) (same its.is) ∙ settle
@@ -453,33 +408,51 @@ module _ (S : Script) (r : Ran) (story : Story) (went : Went S r story) (none : 
             same : its.line ≡ 1 + count → its.line ≡ suc count
             same e = omega (arith, e)
 
-    none_due : (o : Option Due) → (false || is_none o) ≡ true → o ≡ None
-    none_due None e = refl
-    none_due (Some d) e = absurd (cc e)
+    -- the events up to it, those of it, and the others
+    three : (before after : Events) → (there count past).events ≡ before ++ after → all_of story ≡ (events_up_to story count ++ before) ++ (after ++ flat (drop (suc count) story.lines))
+    three before after is =
+        sym (parted_events story (suc count)) ∙ ap (λ xs. xs ++ flat (drop (suc count) story.lines)) (parted_here ∙ ap (λ xs. events_up_to story count ++ xs) is ∙ sym (append_assoc (events_up_to story count) before after))
+        ∙ append_assoc (events_up_to story count ++ before) after (flat (drop (suc count) story.lines))
 
-    first_inv : (c : Core) → Inv first_place c
-    first_inv c e = inr (quiet_none c)
+    two : all_of story ≡ events_up_to story count ++ ((there count past).events ++ flat (drop (suc count) story.lines))
+    two = sym (parted_events story (suc count)) ∙ ap (λ xs. xs ++ flat (drop (suc count) story.lines)) parted_here ∙ append_assoc (events_up_to story count) its.events (flat (drop (suc count) story.lines))
 
-    by_walk : (o : Option Walked) → walk next_due (there count past).line (record { place = first_place; core = (there count past).at }) (there count past).events ≡ o
-        → option_map_or (λ at. not true || is_none (next_due at.place at.core)) o false ≡ true → NothingOpen (core_behind S story (suc count)) ⊎ IsQuiet (core_behind S story (suc count))
-    by_walk None e k = absurd (cc k)
-    by_walk (Some end) e k =
-        let here : its.at ≡ c0.core = at_is ∙ sym c0_core in
-        let ended : end.core ≡ core_behind S story (suc count) = walk_core its.line (record { place = first_place; core = its.at }) its.events end e ∙ ap (λ (c : Core). steps c its.events) at_is ∙ end_is in
-        let last = settle_walk running laws turns (start_at S r) room its.line its.events first_place c0 end run0 moving0
-        (subst (λ (c : Core). AllRoomy c its.events) (sym c0_core) roomy_here) (subst (λ (c : Core). AllMayKeep (start_at S r) (MayRun (start_at S r)) c its.events) (sym c0_core) may_here)
-        (ap (λ (c : Core). (steps c its.events).ended) c0_core ∙ ap (λ (c : Core). c.ended) end_is ∙ going count past)
-        (subst (λ (c : Core). walk next_due its.line (record { place = first_place; core = c }) its.events ≡ Some end) here e) (first_inv c0.core) in
-        subst (λ (c : Core). NothingOpen c ⊎ IsQuiet c) ended (open_or_quiet end.place end.core last.fitting (none_due (next_due end.place end.core) k) last.inv)
+    rounds : HaveRounds (core_behind S story count) (there count past).events
+    rounds = have_rounds (judging S) entry its.events (core_behind S story count) each
+      where
+        each : (before after : Events) → its.events ≡ before ++ after
+            → (cs : List Folded) × IsStanding (judging S) entry (steps (core_behind S story count) before) cs × (2 * (shape_of (steps (core_behind S story count) before)).shards < (steps (core_behind S story count) before).pool.limit)
+        each before after is =
+            let core_is : steps (first_core S.set story.found) (events_up_to story count ++ before) ≡ steps (core_behind S story count) before = steps_append (first_core S.set story.found) (events_up_to story count) before in
+            let stands = known.stands (events_up_to story count ++ before) (after ++ flat (drop (suc count) story.lines)) (three before after is) in
+            let kept = there_kept S r story went (events_up_to story count ++ before) (after ++ flat (drop (suc count) story.lines)) (ap (λ es. story.opening ++ es) (sym (flat_is story.lines)) ∙ three before after is) in
+            let roomy : 2 * (shape_of (steps (first_core S.set story.found) (events_up_to story count ++ before))).shards < (steps (first_core S.set story.found) (events_up_to story count ++ before)).pool.limit =
+            (let shards = ap (λ (z : Shape). z.shards) kept.shaped in let pool = kept.noted.pool in let limit = ap (λ (l : Limits). l.pool) kept.limited in omega (arith, room, shards, pool, limit)) in
+            subst (λ (c : Core). (cs : List Folded) × IsStanding (judging S) entry c cs × (2 * (shape_of c).shards < c.pool.limit)) core_is (stands.0, stands.1, roomy)
 
-    pub ends_so : NothingOpen (core_behind S story (suc count)) ⊎ IsQuiet (core_behind S story (suc count))
-    ends_so = by_walk (walk next_due its.line (record { place = first_place; core = its.at }) its.events) refl walks
+    leaves : IsLeft (core_behind S story (suc count)) × ((core_behind S story (suc count)).operations ≡ [])
+    leaves =
+        let begin_all = known.begins (events_up_to story (suc count)) (flat (drop (suc count) story.lines)) (sym (parted_events story (suc count))) (going count past) in
+        let parts = begin_parts S.set.name (events_up_to story count) its.events (first_core S.set story.found) (subst (λ xs. MayBeginAll S.set.name xs (first_core S.set story.found)) parted_here begin_all) in
+        subst (λ (c : Core). IsLeft c × (c.operations ≡ [])) end_is
+        (settle_of_run S.set.name S.set.shape S.set.limits (opens_with S.set story.found) story.found.opened (events_up_to story count) its.events its.line known.ranked.shape
+        (logs S.set story.found went.found.goods known.ranked) parts.0 parts.1 rounds walks ends_going)
 
-  -- so each settle settles
-  pub settles_each : Going → TurnsLaw → Below → Answers S (entry_store S r) r.journal → SettlesEach S (entry_store S r) r
-  settles_each laws turns below answers room zero settle past = let both : None ≡ Some command.Settle = sym none ∙ settle in absurd (cc both)
-  settles_each laws turns below answers room (suc count) settle past = by_end (ends_so laws turns room count past settle)
-    where
-      by_end : NothingOpen (core_behind S story (suc count)) ⊎ IsQuiet (core_behind S story (suc count)) → Settles S (entry_store S r) r (suc count)
-      by_end (inl nothing) = settles (suc count) answers settle past nothing
-      by_end (inr quiet) = quiet_settles laws below (suc count) answers settle past quiet
+    opens_going : (first_core S.set story.found).ended ≡ None
+    opens_going = going_from (events_up_to story (suc count)) (first_core S.set story.found) (going count past)
+
+    pub nothing_open : IsLeft (core_behind S story (suc count)) × NothingOpen (core_behind S story (suc count))
+    nothing_open =
+        let stands = known.stands (events_up_to story (suc count)) (flat (drop (suc count) story.lines)) (sym (parted_events story (suc count))) in
+        let tuned = run_up (events_up_to story (suc count)) (first_core S.set story.found) (first_tuned S.set story.found went.found.goods known.ranked opens_going) (first_up S.set story.found went.found.goods known.ranked) (going count past) in
+        (leaves.0, left_open below (judging S) entry (core_behind S story (suc count)) stands.0 known.valid stands.1 tuned.0 leaves.0 leaves.1)
+
+  module _ (below : Below) where
+    -- nothing is open behind it, and no peer is joining
+    pub rests : 2 * S.set.shape.shards < S.set.limits.pool → (line : ℕ) → S.commands line ≡ Some command.Settle → IsPast r line → IsLeft (core_behind S story line) × NothingOpen (core_behind S story line)
+    rests room zero settle past = let both : None ≡ Some command.Settle = sym none ∙ settle in absurd (cc both)
+    rests room (suc count) settle past = nothing_open below room count past settle
+
+    -- so each settle settles
+    pub settles_each : Answers S entry r.journal → SettlesEach S entry r
+    settles_each answers room line settle past = settles line answers settle past (rests room line settle past).1

@@ -3,7 +3,9 @@ use Rattle.std.proofs.Common.{◌≡◌, inl, inr, ◌∙◌, ap, sym, subst, �
 use Rattle.std.proofs.lemmas.List.Elements.{All-from_recursion}
 use Rattle.std.specs.Prelude.{if◌then◌else◌}
 use Rattle.hs_settled.proofs.CausesListLemmas.{not_both}
-use Rattle.hs_settled.proofs.LostLemmas.{lost_cause, lost_within}
+use Rattle.hs_settled.proofs.LossLemmas.{lost_cause}
+use Rattle.hs_settled.proofs.LostLemmas.{lost_within}
+use Rattle.hs_settled.specs.Opened.{OpensRanked}
 use Rattle.hs_settled.proofs.CausesRunLemmas.{last_kept, refused_stands}
 use Rattle.hs_desk.specs.declared.fault.CoreFault.TheVariants as fault
 use Rattle.hs_events.specs.Taken.{peer_count}
@@ -102,11 +104,11 @@ module _ (S : Script) (r : Ran) (blamed : AreBlamed S r) where
     went_cause Lost lost (status.NoSource peer) e = absurd (went_scripted (status.NoSource peer) e refl)
     went_cause Lost lost (status.CopyFull blocks) e = absurd (went_scripted (status.CopyFull blocks) e refl)
 
-pub cause_is : (S : Script) (r : Ran) (how : Option Story) → S.set.shape.copies ≡ 1 → WentAs S r how → AreBlamed S r → Cause S r r.ending
-cause_is S r None one never blamed = never_cause S r blamed never (LostCause S r) r.ending refl
-cause_is S r (Some story) one went blamed = went_cause S r blamed story went (LostCause S r) (λ g over. lost_cause S r story went one g over) r.ending refl
+pub cause_is : (S : Script) (r : Ran) (how : Option Story) → WentAs S r how → ((S.set.shape.copies ≡ 1 → ⊥) → IfSome how (λ story. OpensRanked S.set story.found)) → AreBlamed S r → Cause S r r.ending
+cause_is S r None never ranked blamed = never_cause S r blamed never (LostCause S r) r.ending refl
+cause_is S r (Some story) went ranked blamed = went_cause S r blamed story went (LostCause S r) (λ g over. lost_cause S r story went g over ranked) r.ending refl
 
--- of any number of copies, but why a shard is lost
+-- but why a shard is lost
 pub cause_but_loss : (S : Script) (r : Ran) (how : Option Story) → WentAs S r how → AreBlamed S r → CauseButLoss S r r.ending
 cause_but_loss S r None never blamed = never_cause S r blamed never (λ shard. shard < S.set.shape.shards) r.ending refl
 cause_but_loss S r (Some story) went blamed = went_cause S r blamed story went (λ shard. shard < S.set.shape.shards) (λ g over. lost_within S r story went g over) r.ending refl

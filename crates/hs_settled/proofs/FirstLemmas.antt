@@ -6,7 +6,7 @@ use Rattle.std.specs.List.{AllByRecursion, list_all}
 use Rattle.std.specs.Map.{lookup}
 use Rattle.std.specs.Ordering.{nat_cmp}
 use Rattle.std.specs.Prelude.{if◌then◌else◌, nat_le}
-use Rattle.hs_standing.proofs.AlongWalkLemmas.{along as along_events, copies_step, walks_step}
+use Rattle.hs_standing.proofs.AlongWalkLemmas.{along as along_events, copies_step}
 use Rattle.hs_standing.specs.Changes.{IsBeside, tells_at_once, told_at_once}
 use Rattle.hs_standing.specs.Copies.{AllComeOn}
 use Rattle.hs_standing.specs.Walks.{MayEvent, MayReport, Walks, WalksViews}
@@ -24,10 +24,10 @@ use Rattle.hs_core_words.specs.Opening.{Taken, new_core, open_core}
 use Rattle.hs_core_words.specs.Operating.{begin_line, busy_line, go_on_with, resume, take_step}
 use Rattle.hs_core_words.specs.Seeing.{pointers_for, view_for}
 use Rattle.hs_core_words.specs.State.{Core}
-use Rattle.hs_core_words.specs.Step.{step}
 use Rattle.hs_core_words.specs.Views.{begin_view}
 use Rattle.hs_settled.proofs.RuleLemmas.{all_front}
-use Rattle.hs_settled.proofs.DeletesRunLemmas.{Running, steps_ended}
+use Rattle.hs_settled.proofs.BegunLemmas.{begins_on, come}
+use Rattle.hs_settled.proofs.DeletesRunLemmas.{steps_ended}
 use Rattle.hs_settled.proofs.SaidLemmas.{Says, again_told, more_told, proposed_told, same_told, says_nothing, says_note, view_told}
 use Rattle.hs_desk.specs.declared.done.Done.{Done}
 use Rattle.hs_desk.specs.declared.done.Done.TheVariants as done
@@ -43,7 +43,6 @@ use Rattle.hs_entry.specs.declared.entry.Entry.TheVariants as kind
 use Rattle.hs_events.specs.Course.{steps}
 use Rattle.hs_events.specs.Due.{Events}
 use Rattle.hs_events.specs.Found.{Found, first_core, opens_with}
-use Rattle.hs_events.specs.Whole.{Whole, open_whole, step_whole}
 use Rattle.hs_journal.specs.declared.entry.JournalEntry.{JournalEntry}
 use Rattle.hs_journal.specs.declared.entry.Who.TheVariants as who
 use Rattle.hs_standing.proofs.MuteLemmas.{Words, step_books, step_stays}
@@ -71,8 +70,9 @@ use Rattle.hs_settled.proofs.OwnLemmas.{AreCounted, NoneOwn, going_asks, own_beg
 use Rattle.hs_shard.specs.declared.effect.Effect.{Effect}
 use Rattle.hs_shard.specs.Facts.{Catalogue}
 use Rattle.hs_standing.proofs.FirstLemmas.{KeepsFirst, first_held}
-use Rattle.hs_standing.specs.Run.{IsRunning, MayRun, RunOpens}
-use Rattle.hs_standing.specs.Standing.{AllMayKeep, MayKeep}
+use Rattle.hs_standing.proofs.TakenLemmas.{FoldsInMemory}
+use Rattle.hs_standing.specs.Run.{MayRun, RunBegins}
+use Rattle.hs_standing.specs.Standing.{AllMayKeep, judging_of}
 use Rattle.hs_standing.specs.Start.{Start}
 use Rattle.hs_told.proofs.OpenedLemmas.{opened_turn}
 use Rattle.hs_told.specs.InTurn.{IsInTurn, told_of}
@@ -389,48 +389,8 @@ module _ (name : List ℕ → Address) (shape : Shape) (limits : Limits) (taken 
       let last : Core = steps opened es in
       all_front IsNoFirst (told_of last) last.entries (all_asked es may)
 
--- ---- along a run
-
--- what is asked of an event of a run is more than is asked here
-may_ask : (start : Start) (e : Event) (c : Core) → MayRun start e c → MayEvent (MayAsk start.set.name) (λ number bytes w x. Unit {0}) (λ line. Unit {0}) e c
-may_ask start (event.Line line o) c may = may.fresh
-may_ask start (event.Report peer (done.Stored number)) c may = tt
-may_ask start (event.Report peer (done.Sealed number)) c may = tt
-may_ask start (event.Report peer (done.Bytes number bytes)) c may = λ w r. tt
-may_ask start (event.Report peer (done.Gone number)) c may = λ w r. tt
-may_ask start (event.Report peer done.Emptied) c may = tt
-may_ask start (event.Report peer (done.Copied number)) c may = tt
-may_ask start (event.Report peer (done.Stepped switched)) c may = tt
-may_ask start (event.Report peer (done.Failed disk)) c may = tt
-may_ask start (event.Turn line peer) c may = tt
-may_ask start (event.Deliver line number) c may = tt
-may_ask start (event.Lose line number) c may = tt
-may_ask start (event.Repeat line number) c may = tt
-may_ask start (event.Nudge line peer) c may = tt
-may_ask start (event.Fail line peer) c may = tt
-may_ask start (event.Start line peer) c may = tt
-
-module _ (running : Running) (start : Start) where
-  along : (es : Events) (c : Whole) → IsRunning start c → AllMayKeep start (MayRun start) c.core es → Opened c.core → NoneFirst (steps c.core es)
-  along [] c run may q = q.none
-  along (e ∷ es) c run may q = by_end (λ r t. along es (step_whole e.0 e.1 c) r may.1 t) (step e.0 e.1 c.core).ended refl
-    where
-      m : MayKeep start (MayRun start) c.core e.0 e.1
-      m = may.0 run.stands.whole.sane.going
-
-      behind : Asked start.set.name (step e.0 e.1 c.core)
-      behind = walks_step (asks start.set.name) c e.0 e.1 run.stands.whole.sane run.stands.whole.few (run.stands.whole.turn.going run.stands.whole.sane.going) (may_ask start e.0 c.core m.may)
-          (record { orderly = run.stands.whole.stands.orderly; own = q.own; none = q.none })
-
-      by_end : (IsRunning start (step_whole e.0 e.1 c) → Opened (step e.0 e.1 c.core) → NoneFirst (steps (step e.0 e.1 c.core) es))
-          → (o : Option CoreFault) → (step e.0 e.1 c.core).ended ≡ o → NoneFirst (steps (step e.0 e.1 c.core) es)
-      by_end later None going = later (running.goes_on start c (e ∷ []) run (may.0, tt) going) (record { own = behind.own; none = behind.none })
-      by_end later (Some fault) over = subst (λ (x : Core). NoneFirst x) (sym (steps_ended (step e.0 e.1 c.core) es fault over)) behind.none
-
-  -- journal, and what found it full
-  pub run_told : (found : Found) (es : Events) → RunOpens start found → AllMayKeep start (MayRun start) (first_core start.set found) es → AllByRecursion IsNoFirst (told_of (steps (first_core start.set found) es))
-  run_told found es opens may =
-      let last : Core = steps (first_core start.set found) es in
-      let all : NoneFirst (steps (first_core start.set found) es) =
-      along es (open_whole start.set found) (running.opens start found opens) may (opened_first start.set.name start.set.shape start.set.limits (opens_with start.set found) found.opened) in
-      all_front IsNoFirst (told_of last) last.entries all
+-- of a run the journal, and what found it full
+pub run_told : FoldsInMemory → (start : Start) (found : Found) (es : Events) → RunBegins start found → AllMayKeep start (MayRun start) (first_core start.set found) es → AllByRecursion IsNoFirst (told_of (steps (first_core start.set found) es))
+run_told memory start found es b may =
+    copies_told start.set.name start.set.shape start.set.limits (opens_with start.set found) found.opened es
+    (begins_on (judging_of start) start.entry (first_core start.set found) es (come start found b memory es may))

@@ -1,15 +1,14 @@
--- Why a shard of one copy is lost: a `fail` line, or the note of its peer's disk, was the last thing that happened.
-use Rattle.std.proofs.Common.{◌≡◌, ◌⊎◌, inl, inr, ◌∙◌, ap, sym, subst, ℕ, ◌+◌, ◌*◌, ◌<◌, ◌≤◌, ◌==◌, ◌&&◌, ◌++◌, Bool, true, false, cond, not, List, [], ◌∷◌, Option, Some, None, IfSome, refl, arith, length, append-nil}
+-- Who falls was noted with the last line, or that is its `fail` line; with one copy a shard is lost by the event in which its peer falls.
+use Rattle.std.proofs.Common.{◌≡◌, ◌⊎◌, inl, inr, ◌∙◌, ap, sym, subst, ℕ, ◌+◌, ◌*◌, ◌<◌, ◌≤◌, ◌==◌, ◌&&◌, ◌++◌, Bool, true, false, cond, not, List, [], ◌∷◌, Option, Some, None, IfSome, refl, arith, length}
 use Rattle.std.proofs.lemmas.Bool.{eq-eqb, eqb-true}
 use Rattle.std.specs.List.{AllByRecursion, slice_get}
 use Rattle.hs_settled.proofs.AddingLemmas.{Grows, IsLate}
-use Rattle.hs_settled.proofs.AskLemmas.{AllAsk, Asks, Speaks, reached}
+use Rattle.hs_settled.proofs.AskLemmas.{AllAsk, Asks}
 use Rattle.hs_settled.proofs.CausesFirstLemmas.{IsFirst, line_first, members_first, told_first}
 use Rattle.hs_settled.proofs.KeptLemmas.{Kept, grows_by, peers_of_shape, step_kept}
-use Rattle.hs_settled.proofs.CausesListLemmas.{NoteAt, all_at, at_right, count_parts, find_low, find_none, find_true, range_each, some_note}
+use Rattle.hs_settled.proofs.CausesListLemmas.{NoteAt, all_at, any_all, at_right, count_parts, find_low, find_none, find_true, range_each, some_note}
 use Rattle.hs_settled.proofs.NoteLemmas.{Notes, note_is}
-use Rattle.hs_settled.proofs.PromptLemmas.{ended_spoke}
-use Rattle.hs_settled.proofs.CausesRunLemmas.{all_ask_so, all_come_so, are_lines, begun_line, last_behind, last_is, last_kept, last_line, lined, mute, mute_is, mute_some, opened_kept}
+use Rattle.hs_settled.proofs.CausesRunLemmas.{last_kept, mute}
 use Rattle.hs_settled.proofs.SeatLemmas.{FallsBy, Seated, peers_in, seats_run}
 use Rattle.hs_core_words.specs.declared.event.Event.{Event}
 use Rattle.hs_core_words.specs.declared.event.Event.TheVariants as event
@@ -34,8 +33,7 @@ use Rattle.hs_limits.specs.declared.limits.PeerStatus.TheVariants.{Down, Good, J
 use Rattle.hs_limits.specs.declared.shape.Shape.{Shape}
 use Rattle.hs_limits.specs.Shape.{peer_of}
 use Rattle.hs_standing.proofs.LinesStepLemmas.{step_ended, step_line}
-use Rattle.hs_standing.specs.Script.{all_events}
-use Rattle.hs_members.specs.Members.{Members, has_good, is_good_status, status}
+use Rattle.hs_members.specs.Members.{Members, has_good, is_good_status, peers_of, status}
 use Rattle.hs_model.specs.declared.command.Command.{Command}
 use Rattle.hs_model.specs.declared.command.Command.TheVariants as command
 use Rattle.hs_model.specs.declared.reply.Reply.TheVariants as reply
@@ -44,8 +42,6 @@ use Rattle.hs_settled.proofs.NotedCountLemmas.{step_counts, told_by}
 use Rattle.hs_settled.proofs.NotedEventLemmas.{line_then}
 use Rattle.hs_settled.proofs.NotedFirstLemmas.{first_notes}
 use Rattle.hs_settled.specs.Noted.{IsAnswering}
-use Rattle.hs_promise.specs.Lost.{LostCause, NotGood, NotStartedAfter}
-use Rattle.hs_promise.specs.Lost.NotGood.{Failed, Noted}
 use Rattle.hs_promise.specs.Machine.{Went}
 use Rattle.hs_promise.specs.Run.{Ran, Script}
 use Rattle.hs_promise.specs.Story.{Story, last_core}
@@ -53,7 +49,7 @@ use Rattle.hs_told.specs.InTurn.{AllMayCome, MayCome, OtherMay, told_of}
 
 -- ---- shards and their peers
 
-good_is : (s : PeerStatus) → is_good_status s ≡ true → s ≡ Good
+pub good_is : (s : PeerStatus) → is_good_status s ≡ true → s ≡ Good
 good_is Good e = refl
 good_is Joining e = absurd (cc e)
 good_is Down e = absurd (cc e)
@@ -86,11 +82,18 @@ module _ (c : Core) (one : (shape_of c).copies ≡ 1) where
   pub lost_down : (g : ℕ) → lost_shard c ≡ Some g → is_good_status (status_of g c) ≡ false
   lost_down g e = sym (by_status g) ∙ not_true (has_good g c.members) (find_true (λ shard. not (has_good shard c.members)) (shards_of c) g e)
 
+-- no peer of a shard that is lost is good
+pub none_good_in : (c : Core) (g : ℕ) → lost_shard c ≡ Some g → (copy : ℕ) → copy < (shape_of c).copies → is_good_status (status_of (peer_of (shape_of c) g copy) c) ≡ false
+none_good_in c g lost copy low =
+    let none : has_good g c.members ≡ false = not_true (has_good g c.members) (find_true (λ shard. not (has_good shard c.members)) (shards_of c) g lost) in
+    range_each (λ q. is_good_status (status_of q c) ≡ false) (shape_of c).copies (peer_of (shape_of c) g 0) (peer_of (shape_of c) g copy)
+    (any_all (λ q. is_good_status (status_of q c)) (peers_of (shape_of c) g) none) (omega arith) (omega (arith, low))
+
 pub steps_over : (c : Core) (es : Events) (f : CoreFault) → c.ended ≡ Some f → steps c es ≡ c
 steps_over c [] f over = refl
 steps_over c (e ∷ es) f over = ap (λ x. steps x es) (step_ended e.0 e.1 c f over) ∙ steps_over c es f over
 
--- ---- what happened last
+-- ---- who falls
 
 -- the note of a peer that is down has the last line, or that line is its `fail`
 pub data Loss (commands : ℕ → Option Command) (g : ℕ) (c : Core) : Type 0 where
@@ -107,22 +110,13 @@ line_up line c up = go (line == 0) refl
 pub costs_one : (peer g : ℕ) (c : Core) → told_by g (event.Report peer (done.Failed g)) c ≡ 1
 costs_one peer g c = ap (λ b. cond (b && true) 1 0) (eq-eqb g g refl)
 
-module _ (commands : ℕ → Option Command) (shape : Shape) (limits : Limits) (one : shape.copies ≡ 1) where
+module _ (commands : ℕ → Option Command) (shape : Shape) (limits : Limits) where
   abbrev K : Core → Type 0
   K c = Kept commands shape limits c
-
-  count_is : peers_of_shape shape ≡ shape.shards
-  count_is = ap (λ k. shape.shards * k) one ∙ omega arith
-
-  one_copy : (c : Core) → K c → (shape_of c).copies ≡ 1
-  one_copy c kept = ap (λ (z : Shape). z.copies) kept.shaped ∙ one
 
   module _ (c : Core) (kept : K c) (going : c.ended ≡ None) (e : Event) (at : ℕ) (may : MayCome commands c e at) (asks : Asks commands c e) (g : ℕ) where
     abbrev after : Core
     after = step e at c
-
-    after_kept : K after
-    after_kept = step_kept commands shape limits e at c kept going may asks
 
     grows : Grows (IsLate c.progress.event_line (line_then (line_of e) c)) c after
     grows = grows_by commands shape limits e at c kept going
@@ -130,26 +124,7 @@ module _ (commands : ℕ → Option Command) (shape : Shape) (limits : Limits) (
     line_is : after.progress.event_line ≡ line_then (line_of e) c
     line_is = step_line e at c going
 
-    -- whoever is not good then went down by this event
-    fell : lost_shard after ≡ Some g → FallsBy e g
-    fell lost = elim (seated.good g low) [
-      | inl falls ↦ falls
-      | inr good ↦ absurd (apart (sym (ap is_good_status good) ∙ lost_down after (one_copy after after_kept) g lost))
-    ]
-      where
-        low : g < peers_of_shape shape
-        low = let l : g < (shape_of after).shards = lost_low after g lost in let s : (shape_of after).shards ≡ shape.shards = ap (λ (z : Shape). z.shards) after_kept.shaped in
-            let n : peers_of_shape shape ≡ shape.shards = count_is in omega (arith, l, s, n)
-
-        each : (x : ℕ) → x < peers_of_shape shape → FallsBy e x ⊎ (status_of x c ≡ Good)
-        each x l = inr (all_good c (one_copy c kept) (kept.ends.going going) x
-            (let s : (shape_of c).shards ≡ shape.shards = ap (λ (z : Shape). z.shards) kept.shaped in let n : peers_of_shape shape ≡ shape.shards = count_is in omega (arith, l, s, n)))
-
-        seated : Seated (peers_of_shape shape) (FallsBy e) (peers_in after)
-        seated = seats_run (peers_of_shape shape) (FallsBy e) e at c (λ x falls l. falls)
-            (record { statuses = kept.seats.statuses; count = kept.seats.count; good = each; tasks = kept.seats.tasks; rejoins = kept.seats.rejoins })
-
-    -- and the note of its disk comes with that event
+    -- the note of its disk comes with the report
     noted : (peer : ℕ) → e ≡ event.Report peer (done.Failed g) → Loss commands g after
     noted peer is =
         let one_more : note_count g (told_of after) ≡ note_count g (told_of c) + told_by g e c = step_counts commands c kept.noted going at g e (answers is) in
@@ -171,8 +146,9 @@ module _ (commands : ℕ → Option Command) (shape : Shape) (limits : Limits) (
         answers : e ≡ event.Report peer (done.Failed g) → IsAnswering c e
         answers same = subst (λ x. IsAnswering c x) (sym same) (subst (λ x. Asks commands c x) same asks)
 
-    pub event_loss : lost_shard after ≡ Some g → Loss commands g after
-    event_loss lost = by_event e refl (fell lost)
+    -- whoever falls by an event was noted with it, or it is of the `fail` line
+    pub fell_loss : FallsBy e g → Loss commands g after
+    fell_loss falls = by_event e refl falls
       where
         by_event : (x : Event) → e ≡ x → FallsBy x g → Loss commands g after
         by_event (event.Line line o) is f = absurd f
@@ -189,112 +165,88 @@ module _ (commands : ℕ → Option Command) (shape : Shape) (limits : Limits) (
             IsFailed (ap commands here ∙ own ∙ ap (λ p. Some (command.Fail p)) f)
         by_event (event.Start line peer) is f = absurd f
 
-  -- ---- any number of events
+-- ---- with one copy a shard is lost by the last event, by which its peer falls
 
-  pub lost_by : (c : Core) (es : Events) → K c → AllMayCome commands c es → AllAsk commands c es → (g : ℕ) → c.ended ≡ None → (steps c es).ended ≡ Some (fault.ShardLost g) → Loss commands g (steps c es)
-  lost_by c [] kept may ask g going over = let both : None ≡ Some (fault.ShardLost g) = sym going ∙ over in absurd (cc both)
-  lost_by c (e ∷ es) kept may ask g going over =
-      go (λ on. lost_by (step e.0 e.1 c) es next may.1 ask.1 g on over) (step e.0 e.1 c).ended refl
+pub record FallsLast (g : ℕ) (es : Events) : Type 0 where
+  pub before : Events
+  pub last : Event × ℕ
+  pub is : es ≡ before ++ last ∷ []
+  pub falls : FallsBy last.0 g
+
+module _ (commands : ℕ → Option Command) (shape : Shape) (limits : Limits) (one : shape.copies ≡ 1) where
+  count_is : peers_of_shape shape ≡ shape.shards
+  count_is = ap (λ k. shape.shards * k) one ∙ omega arith
+
+  one_copy : (c : Core) → Kept commands shape limits c → (shape_of c).copies ≡ 1
+  one_copy c kept = ap (λ (z : Shape). z.copies) kept.shaped ∙ one
+
+  fell : (c : Core) → Kept commands shape limits c → c.ended ≡ None → (e : Event) (at : ℕ) → Kept commands shape limits (step e at c) → (g : ℕ) → lost_shard (step e at c) ≡ Some g → FallsBy e g
+  fell c kept going e at behind g lost = elim (seated.good g low) [
+    | inl falls ↦ falls
+    | inr good ↦ absurd (apart (sym (ap is_good_status good) ∙ lost_down (step e at c) (one_copy (step e at c) behind) g lost))
+  ]
     where
-      next : K (step e.0 e.1 c)
+      low : g < peers_of_shape shape
+      low = let l : g < (shape_of (step e at c)).shards = lost_low (step e at c) g lost in let s : (shape_of (step e at c)).shards ≡ shape.shards = ap (λ (z : Shape). z.shards) behind.shaped in
+          let n : peers_of_shape shape ≡ shape.shards = count_is in omega (arith, l, s, n)
+
+      each : (x : ℕ) → x < peers_of_shape shape → FallsBy e x ⊎ (status_of x c ≡ Good)
+      each x l = inr (all_good c (one_copy c kept) (kept.ends.going going) x
+          (let s : (shape_of c).shards ≡ shape.shards = ap (λ (z : Shape). z.shards) kept.shaped in let n : peers_of_shape shape ≡ shape.shards = count_is in omega (arith, l, s, n)))
+
+      seated : Seated (peers_of_shape shape) (FallsBy e) (peers_in (step e at c))
+      seated = seats_run (peers_of_shape shape) (FallsBy e) e at c (λ x falls l. falls)
+          (record { statuses = kept.seats.statuses; count = kept.seats.count; good = each; tasks = kept.seats.tasks; rejoins = kept.seats.rejoins })
+
+  pub falls_last : (c : Core) (es : Events) → Kept commands shape limits c → AllMayCome commands c es → AllAsk commands c es → (g : ℕ) → c.ended ≡ None → (steps c es).ended ≡ Some (fault.ShardLost g) → FallsLast g es
+  falls_last c [] kept may ask g going over = let both : None ≡ Some (fault.ShardLost g) = sym going ∙ over in absurd (cc both)
+  falls_last c (e ∷ es) kept may ask g going over = go (λ on. falls_last (step e.0 e.1 c) es next may.1 ask.1 g on over) (step e.0 e.1 c).ended refl
+    where
+      next : Kept commands shape limits (step e.0 e.1 c)
       next = step_kept commands shape limits e.0 e.1 c kept going (may.0 going) ask.0.1
 
-      go : ((step e.0 e.1 c).ended ≡ None → Loss commands g (steps (step e.0 e.1 c) es)) → (o : Option CoreFault) → (step e.0 e.1 c).ended ≡ o → Loss commands g (steps (step e.0 e.1 c) es)
-      go ih None is = ih is
+      -- nothing comes to a core that has ended
+      none_more : (f : CoreFault) → (step e.0 e.1 c).ended ≡ Some f → (xs : Events) → AllAsk commands (step e.0 e.1 c) xs → xs ≡ []
+      none_more f is [] a = refl
+      none_more f is (x ∷ xs) a = let both : None ≡ Some f = sym a.0.0 ∙ is in absurd (cc both)
+
+      go : ((step e.0 e.1 c).ended ≡ None → FallsLast g es) → (o : Option CoreFault) → (step e.0 e.1 c).ended ≡ o → FallsLast g (e ∷ es)
+      go ih None is = let r : FallsLast g es = ih is in record { before = e ∷ r.before; last = r.last; is = ap (λ xs. e ∷ xs) r.is; falls = r.falls }
       go ih (Some f) is =
           let same : steps (step e.0 e.1 c) es ≡ step e.0 e.1 c = steps_over (step e.0 e.1 c) es f is in
           let lost : (step e.0 e.1 c).ended ≡ Some (fault.ShardLost g) = ap (λ (x : Core). x.ended) (sym same) ∙ over in
-          subst (λ (x : Core). Loss commands g x) (sym same) (event_loss c kept going e.0 e.1 (may.0 going) ask.0.1 g (next.ends.lost g lost))
+          record { before = []; last = e; is = ap (λ xs. e ∷ xs) (none_more f is es ask.1); falls = fell c kept going e.0 e.1 next g (next.ends.lost g lost) }
 
 -- ---- a run
 
 -- of any number of copies: the shard is lost in the last core, and is one of the store
 module _ (S : Script) (r : Ran) (story : Story) (went : Went S r story) (g : ℕ) (over : (last_core S story).ended ≡ Some (fault.ShardLost g)) where
-  is_lost : lost_shard (last_core S story) ≡ Some g
+  pub is_lost : lost_shard (last_core S story) ≡ Some g
   is_lost = (last_kept S r story went).ends.lost g over
 
   pub lost_within : g < S.set.shape.shards
   lost_within = let l : g < (shape_of (last_core S story)).shards = lost_low (last_core S story) g is_lost in
       let s : (shape_of (last_core S story)).shards ≡ S.set.shape.shards = ap (λ (z : Shape). z.shards) (last_kept S r story went).shaped in omega (arith, l, s)
 
-module _ (S : Script) (r : Ran) (story : Story) (went : Went S r story) (one : S.set.shape.copies ≡ 1) (g : ℕ) (over : (last_core S story).ended ≡ Some (fault.ShardLost g)) where
+-- a peer that is not good as the core opens was told of before any line
+module _ (S : Script) (r : Ran) (story : Story) (went : Went S r story) (p : ℕ) (low : p < S.set.shape.shards * S.set.shape.copies) (down : is_good_status (status_of p (first_core S.set story.found)) ≡ false) where
   abbrev opened : Core
   opened = first_core S.set story.found
 
-  abbrev commands : ℕ → Option Command
-  commands = mute S.commands
-
-  shard_low : g < S.set.shape.shards
-  shard_low = lost_within S r story went g over
-
-  -- it was lost as the core opened
-  opened_loss : opened.ended ≡ Some (fault.ShardLost g) → Loss commands g opened
-  opened_loss lost =
-      let kept : Kept commands S.set.shape S.set.limits opened = opened_kept S r story went in
-      let copies : (shape_of opened).copies ≡ 1 = ap (λ (z : Shape). z.copies) kept.shaped ∙ one in
-      let down : is_good_status (status_of g opened) ≡ false = lost_down opened copies g (kept.ends.lost g lost) in
+  pub first_loss : Loss (mute S.commands) p (first_core S.set story.found)
+  first_loss =
       let members : opened.members ≡ (new_core S.set.shape S.set.limits (opens_with S.set story.found) story.found.opened).members =
       members_first S.set.shape S.set.limits (opens_with S.set story.found) story.found.opened went.found.goods in
-      let low : g < S.set.shape.shards * S.set.shape.copies =
-      let n : S.set.shape.shards * S.set.shape.copies ≡ S.set.shape.shards = ap (λ k. S.set.shape.shards * k) one ∙ omega arith in let l : g < S.set.shape.shards = shard_low in omega (arith, n, l) in
-      let count : note_count g (told_of opened) ≡ 1 =
-      first_notes S.set.shape S.set.limits (opens_with S.set story.found) story.found.opened g low
-      ∙ ap (λ (m : Members). cond (is_good_status (status g m)) 0 1) (sym members) ∙ ap (λ b. cond b 0 1) down in
-      let n : NoteAt g (told_of opened) = some_note g (told_of opened) (omega (arith, count)) in
-      let tells : Notes g n.entry = note_is g n.entry n.note in
+      let count : note_count p (told_of opened) ≡ 1 =
+      first_notes S.set.shape S.set.limits (opens_with S.set story.found) story.found.opened p low
+      ∙ ap (λ (m : Members). cond (is_good_status (status p m)) 0 1) (sym members) ∙ ap (λ b. cond b 0 1) down in
+      let n : NoteAt p (told_of opened) = some_note p (told_of opened) (omega (arith, count)) in
+      let tells : Notes p n.entry = note_is p n.entry n.note in
       let first : IsFirst (S.set.shape.shards * S.set.shape.copies) n.entry =
       all_at (λ (e : JournalEntry). IsFirst (S.set.shape.shards * S.set.shape.copies) e) (told_of opened) n.place n.entry (told_first S.set.shape S.set.limits (opens_with S.set story.found) story.found.opened went.found.goods) n.at in
       let zero_line : opened.progress.event_line ≡ 0 = line_first S.set.shape S.set.limits (opens_with S.set story.found) story.found.opened went.found.goods in
-      let line : tells.line ≡ 0 = line_of_note first.peer g tells.line (sym first.told ∙ tells.told) in
-      IsNoted n.place (record { note = n.entry; at = n.at; store = first.store; told = tells.told ∙ ap (λ k. reply.Down g k) (line ∙ sym zero_line) })
+      let line : tells.line ≡ 0 = line_of_note first.peer p tells.line (sym first.told ∙ tells.told) in
+      IsNoted n.place (record { note = n.entry; at = n.at; store = first.store; told = tells.told ∙ ap (λ k. reply.Down p k) (line ∙ sym zero_line) })
     where
       line_of_note : (p q k : ℕ) → reply.Down p 0 ≡ reply.Down q k → k ≡ 0
       line_of_note p q k e = cc e
-
-  loss : Loss commands g (last_core S story)
-  loss = go opened.ended refl
-    where
-      all : Events
-      all = story.opening ++ all_events story.lines
-
-      there : (steps opened all).ended ≡ Some (fault.ShardLost g)
-      there = ap (λ (c : Core). c.ended) (sym (last_is S r story went)) ∙ over
-
-      go : (o : Option CoreFault) → opened.ended ≡ o → Loss commands g (last_core S story)
-      go None is = subst (λ (c : Core). Loss commands g c) (sym (last_is S r story went))
-          (lost_by commands S.set.shape S.set.limits one opened all (opened_kept S r story went) (all_come_so S r story went) (all_ask_so S r story went) g is there)
-      go (Some f) is =
-          let same : steps opened all ≡ opened = steps_over opened all f is in
-          subst (λ (c : Core). Loss commands g c) (sym (last_is S r story went ∙ same)) (opened_loss (ap (λ (c : Core). c.ended) (sym same) ∙ there))
-
-  -- no line behind the last one of an event starts the peer
-  none_started : NotStartedAfter S r g (last_core S story).progress.event_line
-  none_started k above started =
-      let count : r.line ≡ length story.lines = went.line in
-      let upto : k ≤ r.line = started.begun in
-      let behind : Core = steps opened story.opening in
-      let reach : k ≤ (steps behind (all_events story.lines)).progress.event_line =
-      reached (lined S r) 1 behind story.lines (are_lines S r story went) (omega arith) (begun_line S r story went) k (omega (arith, above)) (omega (arith, upto, count))
-      (subst (λ c. Speaks c) (sym (mute_is S.commands k (omega (arith, above)) ∙ started.starts)) tt)
-      (inr (inr (ended_spoke (lined S r) 1 behind story.lines (fault.ShardLost g) (are_lines S r story went) (ap (λ (c : Core). c.ended) (sym (last_behind S r story went)) ∙ over)))) in
-      let same : (last_core S story).progress.event_line ≡ (steps behind (all_events story.lines)).progress.event_line = ap (λ (c : Core). c.progress.event_line) (last_behind S r story went) in
-      omega (arith, above, reach, same)
-
-  not_good : NotGood S r g
-  not_good = go loss
-    where
-      told_is : told_of (last_core S story) ≡ r.journal
-      told_is = ap (λ (es : List JournalEntry). (last_core S story).journal ++ es) ((last_kept S r story went).ends.clean g over) ∙ append-nil (last_core S story).journal ∙ sym went.journal
-
-      go : Loss commands g (last_core S story) → NotGood S r g
-      go (IsNoted place at) = Noted place (last_core S story).progress.event_line (subst (λ es. IsDownAt es place g (last_core S story).progress.event_line) told_is at) none_started
-      go (IsFailed own) = Failed (last_core S story).progress.event_line (last_line S r story went) (mute_some S.commands (last_core S story).progress.event_line (command.Fail g) own) none_started
-
-  pub lost_cause : LostCause S r g
-  lost_cause = record {
-    within = shard_low;
-    each = λ copy low. subst (λ p. NotGood S r p) (sym (peer_is copy low)) not_good;
-  }
-    where
-      peer_is : (copy : ℕ) → copy < S.set.shape.copies → peer_of S.set.shape g copy ≡ g
-      peer_is copy low = ap (λ k. g * k + copy) one ∙ omega (arith, low, one)

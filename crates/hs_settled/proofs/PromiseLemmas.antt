@@ -1,10 +1,9 @@
 -- In the words of the promise.
-use Rattle.std.proofs.Common.{◌≡◌, ◌∙◌, sym, ap, subst, ℕ, ◌+◌, List, [], Some}
-use Rattle.hs_answered.specs.Standing.{store_with}
+use Rattle.std.proofs.Common.{◌≡◌, ◌∙◌, sym, ap, subst, ℕ, ◌+◌, List, Some}
 use Rattle.hs_answered.specs.Telling.{Judging}
 use Rattle.hs_core_words.specs.State.{Core}
 use Rattle.hs_core_words.specs.Opening.{Taken, open_core}
-use Rattle.hs_fold.specs.Runs.Facts.{Catalogue as Folded}
+use Rattle.hs_settled.proofs.BegunLemmas.{come_there, opens}
 use Rattle.hs_settled.proofs.DeletesEventLemmas.{LawsBelow}
 use Rattle.hs_settled.proofs.DeletesRunLemmas.{opened_copies_delete, steps_ended}
 use Rattle.hs_settled.specs.Deletion.{TellsDeletion}
@@ -20,11 +19,9 @@ use Rattle.hs_promise.specs.Deletes.{Deletes, EndsRun, IsDoneAt}
 use Rattle.hs_promise.specs.Machine.{NeverOpened, Went}
 use Rattle.hs_promise.specs.Run.{Ran, Script}
 use Rattle.hs_promise.specs.Story.{Story, all_events, last_core}
-use Rattle.hs_standing.specs.Copies.{AllComeOn}
-use Rattle.hs_standing.specs.Held.{GivesAddresses}
-use Rattle.hs_standing.specs.Legal.{MayStand}
-use Rattle.hs_standing.specs.Opens.{MayOpen}
-use Rattle.hs_standing.specs.Run.{MayRun, RunOpens}
+use Rattle.hs_standing.specs.Opening.{opened_folds}
+use Rattle.hs_standing.proofs.TakenLemmas.{FoldsInMemory}
+use Rattle.hs_standing.specs.Run.{MayRun, RunBegins}
 use Rattle.hs_standing.specs.Standing.{AllMayKeep, judging_of}
 use Rattle.hs_standing.specs.Start.{Start}
 use Rattle.hs_swept.proofs.DoneLemmas.{none_swept}
@@ -60,31 +57,29 @@ module _ (S : Script) (entry : Store) (r : Ran) where
 
 -- ---- of a run
 
+-- from opening on
+pub run_deletes : LawsBelow → FoldsInMemory → (start : Start) (found : Found) (events : Events) → RunBegins start found → AllMayKeep start (MayRun start) (first_core start.set found) events
+    → TellsDeletion (judging_of start) start.entry (steps (first_core start.set found) events)
+run_deletes below memory start found events b may =
+    subst (λ (s : Store). TellsDeletion (judging_of start) s (steps (first_core start.set found) events)) (sym b.entry)
+    (opened_copies_delete below (judging_of start) b.soundly.names start.set.shape (opens_with start.set found) found.opened (opened_folds start.set found) (opens start found b memory) events (come_there start found b memory events may))
+
 -- what a run keeps, and a core as it opens
 abbrev pub RunKeeps : Type 0
-RunKeeps = (start : Start) (found : Found) (events : Events) → RunOpens start found → AllMayKeep start (MayRun start) (first_core start.set found) events
+RunKeeps = (start : Start) (found : Found) (events : Events) → RunBegins start found → AllMayKeep start (MayRun start) (first_core start.set found) events
     → TellsDeletion (judging_of start) start.entry (steps (first_core start.set found) events)
 
 abbrev pub OpensSo : Type 0
 OpensSo = (by : Judging) (start : Store) (shape : Shape) (limits : Limits) (taken : Taken) (moment : ℕ) → TellsDeletion by start (open_core shape limits taken moment)
 
 -- it went as a story says
-pub run_promised : RunKeeps → (S : Script) (entry : Store) (r : Ran) (story : Story) → Went S r story → RunOpens (record { set = S.set; commands = S.commands; entry = entry }) story.found
+pub run_promised : RunKeeps → (S : Script) (entry : Store) (r : Ran) (story : Story) → Went S r story → RunBegins (record { set = S.set; commands = S.commands; entry = entry }) story.found
     → AllMayKeep (record { set = S.set; commands = S.commands; entry = entry }) (MayRun (record { set = S.set; commands = S.commands; entry = entry })) (first_core S.set story.found) (all_events story) → Deletes S entry r
-run_promised keeps S entry r story went opens may =
+run_promised keeps S entry r story went begins may =
     deletes_of S entry r (subst (λ (es : List JournalEntry). AreSwept (judging S) entry es) (sym went.journal) told.journal)
   where
     told : TellsDeletion (judging S) entry (last_core S story)
-    told = keeps (record { set = S.set; commands = S.commands; entry = entry }) story.found (all_events story) opens may
-
--- with any number of copies
-pub copies_promised : LawsBelow → (S : Script) (cs : List Folded) (r : Ran) (story : Story) → Went S r story → GivesAddresses S.set.name → MayOpen (judging S) S.set.shape (opens_with S.set story.found) story.found.opened cs
-    → AllComeOn (MayStand (judging S) (store_with cs [])) (first_core S.set story.found) (all_events story) → Deletes S (store_with cs []) r
-copies_promised below S cs r story went names may come =
-    deletes_of S (store_with cs []) r (subst (λ (es : List JournalEntry). AreSwept (judging S) (store_with cs []) es) (sym went.journal) told.journal)
-  where
-    told : TellsDeletion (judging S) (store_with cs []) (last_core S story)
-    told = opened_copies_delete below (judging S) names S.set.shape (opens_with S.set story.found) story.found.opened cs may (all_events story) come
+    told = keeps (record { set = S.set; commands = S.commands; entry = entry }) story.found (all_events story) begins may
 
 -- its core ended as it opened
 pub ended_promised : OpensSo → (S : Script) (entry : Store) (r : Ran) (story : Story) (fault : CoreFault) → Went S r story → (first_core S.set story.found).ended ≡ Some fault → Deletes S entry r

@@ -1,18 +1,18 @@
--- With one copy a shard, a peer is good until a note tells that it is down, where no line asks it to fail.
-use Rattle.std.proofs.Common.{◌≡◌, ◌⊎◌, inl, inr, ◌∙◌, ap, sym, subst, ℕ, ◌+◌, ◌*◌, ◌<◌, ◌≤◌, ◌==◌, ◌++◌, Bool, true, false, cond, List, [], ◌∷◌, Option, Some, None, refl, arith, length, is_none, nat_lt}
-use Rattle.std.proofs.lemmas.Bool.{eq-eqb}
+-- A peer that was good as the core opened is so until a note tells that it is down, where no line asks it to fail.
+use Rattle.std.proofs.Common.{◌≡◌, ◌⊎◌, inl, inr, ◌∙◌, ap, sym, subst, ℕ, suc, ◌+◌, ◌*◌, ◌<◌, ◌≤◌, ◌++◌, Bool, true, false, cond, List, [], ◌∷◌, Option, Some, None, refl, arith, length, is_none, nat_lt}
+use Rattle.std.proofs.lemmas.Bool.Decides.{nat_tests}
 use Rattle.std.proofs.lemmas.List.{append_assoc}
-use Rattle.std.specs.List.{AllByRecursion}
-use Rattle.std.specs.Option.{option_map, option_map_or}
+use Rattle.std.specs.Option.{option_map}
 use Rattle.std.specs.Prelude.{if◌then◌else◌}
 use Rattle.hs_settled.proofs.AskLemmas.{AllAsk, Asks}
-use Rattle.hs_settled.proofs.CausesFirstLemmas.{IsFirst, told_first}
+use Rattle.hs_settled.proofs.CausesFirstLemmas.{moment_first}
 use Rattle.hs_settled.proofs.CausesGoodLemmas.{last_opened, no_line, opened_good}
-use Rattle.hs_settled.proofs.KeptLemmas.{Kept, all_kept, answering, ask_first, come_first, peers_of_shape, step_kept}
-use Rattle.hs_settled.proofs.CausesListLemmas.{both_nil, count_parts, not_both}
-use Rattle.hs_settled.proofs.LostLemmas.{all_good, costs_one, line_up, steps_over}
-use Rattle.hs_settled.proofs.NotesEndLemmas.{Untold, bad_ended, first_untold, none_counted}
-use Rattle.hs_settled.proofs.CausesRunLemmas.{all_ask_so, all_come_so, flat_is, last_is, last_line, mute, mute_some, opened_kept}
+use Rattle.hs_settled.proofs.KeptLemmas.{Kept, answering, peers_of_shape, step_kept}
+use Rattle.hs_settled.proofs.CausesListLemmas.{at_left, count_parts, not_both}
+use Rattle.hs_settled.proofs.LevelLemmas.{le_or}
+use Rattle.hs_settled.proofs.LostLemmas.{all_good, costs_one, good_is, line_up}
+use Rattle.hs_settled.proofs.StartedLemmas.{first_ask, first_come, line_begun, lines_rise, there_kept, told_on}
+use Rattle.hs_settled.proofs.CausesRunLemmas.{flat_is, last_is, mute, mute_some, opened_kept}
 use Rattle.hs_settled.proofs.SeatLemmas.{FallsBy, Seated, peers_in, seats_run}
 use Rattle.hs_awaiting.specs.Words.{change_if}
 use Rattle.hs_core_words.specs.declared.event.Event.{Event}
@@ -24,7 +24,6 @@ use Rattle.hs_desk.specs.declared.done.Done.{Done}
 use Rattle.hs_desk.specs.declared.done.Done.TheVariants as done
 use Rattle.hs_desk.specs.declared.fault.CoreFault.{CoreFault}
 use Rattle.hs_desk.specs.declared.fault.CoreFault.TheVariants as fault
-use Rattle.hs_events.proofs.RunLemmas.{steps_append}
 use Rattle.hs_events.specs.Beginning.{first_items}
 use Rattle.hs_events.specs.Course.{happened, is_refused, items_of, steps}
 use Rattle.hs_events.specs.Due.{Events, MomentsRise}
@@ -32,9 +31,11 @@ use Rattle.hs_events.specs.Found.{first_core, opens_with, starts_good}
 use Rattle.hs_fold.specs.Good.{good_from, is_good}
 use Rattle.hs_journal.specs.declared.entry.JournalEntry.{JournalEntry}
 use Rattle.hs_journal.specs.Moments.{below}
-use Rattle.hs_journal.specs.Notes.{down_in, is_note, note_count}
+use Rattle.hs_journal.specs.Order.{IsAt}
+use Rattle.hs_journal.specs.Notes.{note_count}
 use Rattle.hs_limits.specs.declared.limits.Limits.{Limits}
-use Rattle.hs_limits.specs.declared.limits.PeerStatus.TheVariants.{Good}
+use Rattle.hs_limits.specs.declared.limits.PeerStatus.{PeerStatus}
+use Rattle.hs_limits.specs.declared.limits.PeerStatus.TheVariants.{Down, Good, Joining}
 use Rattle.hs_limits.specs.declared.shape.Shape.{Shape}
 use Rattle.hs_standing.proofs.LinesStepLemmas.{step_line}
 use Rattle.hs_standing.specs.Script.{all_events}
@@ -50,7 +51,7 @@ use Rattle.hs_settled.proofs.NotedEventLemmas.{line_then}
 use Rattle.hs_promise.specs.Lost.{IsPast}
 use Rattle.hs_promise.specs.Machine.{Went}
 use Rattle.hs_promise.specs.Run.{Ran, Script}
-use Rattle.hs_promise.specs.Story.{Story, last_core, all_events as all_of}
+use Rattle.hs_promise.specs.Story.{Story, all_events as all_of}
 use Rattle.hs_promise.specs.Untold.{NoneFails}
 use Rattle.hs_told.specs.InTurn.{AllMayCome, MayCome, OtherMay, told_of}
 
@@ -124,31 +125,41 @@ steps_memory : (c : Core) (es : Events) → (c.ended ≡ Some fault.NoMemory →
 steps_memory c [] h = h
 steps_memory c (e ∷ es) h = steps_memory (step e.0 e.1 c) es (step_memory e.0 e.1 c h)
 
--- ---- who is not good was noted, or was to fail
+-- ---- who was good and is not was noted, or was to fail
 
 abbrev Fell : (ℕ → Option Command) → ℕ → Core → Type 0
-Fell commands x c = (1 ≤ note_count x (told_of c)) ⊎ (commands c.progress.event_line ≡ Some (command.Fail x))
+Fell commands x c = (1 ≤ note_count x (told_of c)) ⊎ ((line : ℕ) × (line ≤ c.progress.event_line) × (commands line ≡ Some (command.Fail x)))
 
-module _ (commands : ℕ → Option Command) (shape : Shape) (limits : Limits) (one : shape.copies ≡ 1) where
+good_or : (s : PeerStatus) → (s ≡ Good) ⊎ (s ≡ Good → ⊥)
+good_or Good = inl refl
+good_or Joining = inr (λ e. cc e)
+good_or Down = inr (λ e. cc e)
+
+module _ (commands : ℕ → Option Command) (shape : Shape) (limits : Limits) where
   abbrev K : Core → Type 0
   K c = Kept commands shape limits c
 
-  every_good : (c : Core) → K c → c.ended ≡ None → (x : ℕ) → x < peers_of_shape shape → status_of x c ≡ Good
-  every_good c kept going x low =
-      let count : peers_of_shape shape ≡ shape.shards = ap (λ k. shape.shards * k) one ∙ omega arith in
-      let shards : (shape_of c).shards ≡ shape.shards = ap (λ (z : Shape). z.shards) kept.shaped in
-      all_good c (ap (λ (z : Shape). z.copies) kept.shaped ∙ one) (kept.ends.going going) x (omega (arith, low, count, shards))
-
-  fell_by : (c : Core) (e : Event) (at : ℕ) → K c → c.ended ≡ None → MayCome commands c e at → Asks commands c e → (x : ℕ) → x < peers_of_shape shape
+  fell_by : (c : Core) (e : Event) (at : ℕ) → K c → c.ended ≡ None → MayCome commands c e at → Asks commands c e → (x : ℕ) → x < peers_of_shape shape → status_of x c ≡ Good
       → (status_of x (step e at c) ≡ Good) ⊎ Fell commands x (step e at c)
-  fell_by c e at kept going may asks x low = elim (seated.good x low) [
-    | inl falls ↦ inr (by_event e refl falls)
-    | inr good ↦ inl good
+  fell_by c e at kept going may asks x low good = elim (seated.good x low) [
+    | inl falls ↦ elim falls [
+      | inl falls ↦ inr (by_event e refl falls)
+      | inr bad ↦ absurd (bad good)
+    ]
+    | inr stays ↦ inl stays
   ]
     where
-      seated : Seated (peers_of_shape shape) (FallsBy e) (peers_in (step e at c))
-      seated = seats_run (peers_of_shape shape) (FallsBy e) e at c (λ y falls l. falls)
-          (record { statuses = kept.seats.statuses; count = kept.seats.count; good = λ y l. inr (every_good c kept going y l); tasks = kept.seats.tasks; rejoins = kept.seats.rejoins })
+      -- whoever falls by the event, or was not good
+      May : ℕ → Type 0
+      May y = FallsBy e y ⊎ (status_of y c ≡ Good → ⊥)
+
+      was : (y : ℕ) → (status_of y c ≡ Good) ⊎ (status_of y c ≡ Good → ⊥) → May y ⊎ (status_of y c ≡ Good)
+      was y (inl here) = inr here
+      was y (inr bad) = inl (inr bad)
+
+      seated : Seated (peers_of_shape shape) May (peers_in (step e at c))
+      seated = seats_run (peers_of_shape shape) May e at c (λ y falls l. inl falls)
+          (record { statuses = kept.seats.statuses; count = kept.seats.count; good = λ y l. was y (good_or (status_of y c)); tasks = kept.seats.tasks; rejoins = kept.seats.rejoins })
 
       noted : (peer : ℕ) → e ≡ event.Report peer (done.Failed x) → 1 ≤ note_count x (told_of (step e at c))
       noted peer is =
@@ -168,37 +179,57 @@ module _ (commands : ℕ → Option Command) (shape : Shape) (limits : Limits) (
           let own : commands line ≡ Some (command.Fail peer) = subst (λ z. Asks commands c z) is asks in
           let other : OtherMay commands c line (event.Fail line peer) = (subst (λ z. MayCome commands c z at) is may).begins in
           let here : (step e at c).progress.event_line ≡ line = step_line e at c going ∙ ap (λ z. line_then (line_of z) c) is ∙ line_up line c other.upward in
-          inr (ap commands here ∙ own ∙ ap (λ p. Some (command.Fail p)) f)
+          inr (line, omega (arith, here), own ∙ ap (λ p. Some (command.Fail p)) f)
       by_event (event.Start line peer) is f = absurd f
 
-  all_fell : (c : Core) (es : Events) → K c → AllMayCome commands c es → AllAsk commands c es → c.ended ≡ None → (x : ℕ) → x < peers_of_shape shape
-      → (status_of x (steps c es) ≡ Good) ⊎ Fell commands x (steps c es)
-  all_fell c [] kept may ask going x low = inl (every_good c kept going x low)
-  all_fell c (e ∷ es) kept may ask going x low = go (λ on. all_fell (step e.0 e.1 c) es (step_kept commands shape limits e.0 e.1 c kept going (may.0 going) ask.0.1) may.1 ask.1 on x low) (step e.0 e.1 c).ended refl
-    where
-      go : ((step e.0 e.1 c).ended ≡ None → (status_of x (steps (step e.0 e.1 c) es) ≡ Good) ⊎ Fell commands x (steps (step e.0 e.1 c) es))
-          → (o : Option CoreFault) → (step e.0 e.1 c).ended ≡ o → (status_of x (steps (step e.0 e.1 c) es) ≡ Good) ⊎ Fell commands x (steps (step e.0 e.1 c) es)
-      go ih None is = ih is
-      go ih (Some f) is = subst (λ (d : Core). (status_of x d ≡ Good) ⊎ Fell commands x d) (sym (steps_over (step e.0 e.1 c) es f is)) (fell_by c e.0 e.1 kept going (may.0 going) ask.0.1 x low)
+  -- that stays so
+  fell_on : (c : Core) (es : Events) → K c → AllMayCome commands c es → AllAsk commands c es → (x : ℕ) → Fell commands x c → Fell commands x (steps c es)
+  fell_on c es kept may ask x (inl noted) =
+      let more = told_on commands shape limits c es kept may ask in
+      let all = ap (λ (xs : List JournalEntry). note_count x xs) more.1 ∙ count_parts x (told_of c) more.0 in
+      inl (omega (arith, noted, all))
+  fell_on c es kept may ask x (inr (line, low, own)) = let up = lines_rise commands c es may ask in inr (line, omega (arith, low, up), own)
 
--- first notes that note nobody are none
-firsts_nil : (n : ℕ) (es : List JournalEntry) → AllByRecursion (λ (e : JournalEntry). IsFirst n e) es → Untold es → es ≡ []
-firsts_nil n [] all untold = refl
-firsts_nil n (e ∷ es) all untold =
-    let none : is_note all.0.peer e ≡ false = (none_counted all.0.peer (e ∷ es) (untold all.0.peer)).0 in
-    let some : is_note all.0.peer e ≡ true = ap (λ o. option_map_or (λ (d : ℕ × ℕ). d.0 == all.0.peer) o false) (ap down_in all.0.told) ∙ eq-eqb all.0.peer all.0.peer refl in
-    absurd (not_both (sym some ∙ none))
+  all_fell : (c : Core) (es : Events) → K c → AllMayCome commands c es → AllAsk commands c es → (x : ℕ) → x < peers_of_shape shape → status_of x c ≡ Good
+      → (status_of x (steps c es) ≡ Good) ⊎ Fell commands x (steps c es)
+  all_fell c [] kept may ask x low good = inl good
+  all_fell c (e ∷ es) kept may ask x low good =
+      let next : K (step e.0 e.1 c) = step_kept commands shape limits e.0 e.1 c kept ask.0.0 (may.0 ask.0.0) ask.0.1 in
+      elim (fell_by c e.0 e.1 kept ask.0.0 (may.0 ask.0.0) ask.0.1 x low good) [
+        | inl stays ↦ all_fell (step e.0 e.1 c) es next may.1 ask.1 x low stays
+        | inr fell ↦ inr (fell_on (step e.0 e.1 c) es next may.1 ask.1 x fell)
+      ]
+
+-- ---- before any event
+
+all_below : (m : ℕ) (es : List JournalEntry) → ((i : ℕ) (entry : JournalEntry) → IsAt es i entry → entry.moment < m) → below m es ≡ es
+all_below m [] h = refl
+all_below m (e ∷ es) h =
+    let here : e.moment < m = h 0 e refl in
+    let passes : nat_lt e.moment m ≡ true = grind (arith, nat_tests, here) in
+    rw passes (ap (λ rest. e ∷ rest) (all_below m es (λ i entry at. h (suc i) entry at)))
+
+none_until : (m from to : ℕ) (c : Core) (es : Events) → MomentsRise from es to → m ≤ from → until m (happened c es) ≡ []
+none_until m from to c [] rises low = refl
+none_until m from to c (e ∷ es) rises low = go (is_refused (step e.0 e.1 c).ended)
+  where
+    late : nat_lt e.1 m ≡ false
+    late = let up : from ≤ e.1 = rises.0 in grind (arith, nat_tests, up, low)
+
+    go : (b : Bool) → until m (if b then [] else e ∷ happened (step e.0 e.1 c) es) ≡ []
+    go true = refl
+    go false = ap (λ b. if b then e ∷ until m (happened (step e.0 e.1 c) es) else []) late
 
 -- ---- a run
 
-module _ (S : Script) (r : Ran) (story : Story) (went : Went S r story) (one : S.set.shape.copies ≡ 1) (past : IsPast r 0) where
+module _ (S : Script) (r : Ran) (story : Story) (went : Went S r story) (past : IsPast r 0) where
   abbrev opened : Core
   opened = first_core S.set story.found
 
   abbrev es : Events
   es = story.opening ++ all_events story.lines
 
-  kept : Kept (mute S.commands) S.set.shape S.set.limits opened
+  kept : Kept (mute S.commands) S.set.shape S.set.limits (first_core S.set story.found)
   kept = opened_kept S r story went
 
   going : opened.ended ≡ None
@@ -216,15 +247,12 @@ module _ (S : Script) (r : Ran) (story : Story) (went : Went S r story) (one : S
       go None is = is
       go (Some f) is = absurd (over f is)
 
-  first_good : (peer : ℕ) → peer < S.set.shape.shards * S.set.shape.copies → is_good_status (status_of peer opened) ≡ true
-  first_good peer low = ap is_good_status (every_good (mute S.commands) S.set.shape S.set.limits one opened kept going peer low)
-
-  pub all_start_good : (peer : ℕ) → peer < S.set.shape.shards * S.set.shape.copies → starts_good story.found peer ≡ true
-  all_start_good peer low = sym (opened_good S r story went peer) ∙ first_good peer low
-
-  silent : opened.journal ≡ []
-  silent = (both_nil opened.journal opened.refused (firsts_nil (S.set.shape.shards * S.set.shape.copies) (told_of opened)
-      (told_first S.set.shape S.set.limits (opens_with S.set story.found) story.found.opened went.found.goods) (first_untold S r story went one going))).0
+  -- with one copy each peer was good as the core opened
+  pub all_start_good : S.set.shape.copies ≡ 1 → (peer : ℕ) → peer < S.set.shape.shards * S.set.shape.copies → starts_good story.found peer ≡ true
+  all_start_good one peer low =
+      let count : S.set.shape.shards * S.set.shape.copies ≡ S.set.shape.shards = ap (λ k. S.set.shape.shards * k) one ∙ omega arith in
+      let shards : (shape_of opened).shards ≡ S.set.shape.shards = ap (λ (z : Shape). z.shards) kept.shaped in
+      sym (opened_good S r story went peer) ∙ ap is_good_status (all_good opened (ap (λ (z : Shape). z.copies) kept.shaped ∙ one) (kept.ends.going going) peer (omega (arith, low, count, shards)))
 
   same_events : all_of story ≡ story.opening ++ all_events story.lines
   same_events = ap (λ xs. story.opening ++ xs) (flat_is story.lines)
@@ -232,26 +260,24 @@ module _ (S : Script) (r : Ran) (story : Story) (went : Went S r story) (one : S
   rises : MomentsRise story.found.opened es r.new.moment
   rises = subst (λ xs. MomentsRise story.found.opened xs r.new.moment) same_events went.rises
 
-  module _ (m : ℕ) where
+  module _ (m peer : ℕ) (low : peer < S.set.shape.shards * S.set.shape.copies) (starts : starts_good story.found peer ≡ true) where
     abbrev now : Core
     now = core_at opened es m
+
+    first_good : status_of peer opened ≡ Good
+    first_good = good_is (status_of peer opened) (opened_good S r story went peer ∙ starts)
 
     front : IsFront (until m (happened opened es)) es
     front = front_at opened es m
 
-    may : AllMayCome (mute S.commands) opened (until m (happened opened es))
-    may = come_first (mute S.commands) opened (until m (happened opened es)) front.rest (subst (λ xs. AllMayCome (mute S.commands) opened xs) front.is (all_come_so S r story went))
+    come : AllMayCome (mute S.commands) opened (until m (happened opened es))
+    come = first_come S r story went (until m (happened opened es)) front.rest front.is
 
     ask : AllAsk (mute S.commands) opened (until m (happened opened es))
-    ask = ask_first (mute S.commands) opened (until m (happened opened es)) front.rest (subst (λ xs. AllAsk (mute S.commands) opened xs) front.is (all_ask_so S r story went))
+    ask = first_ask S r story went (until m (happened opened es)) front.rest front.is
 
     now_kept : Kept (mute S.commands) S.set.shape S.set.limits now
-    now_kept = all_kept (mute S.commands) S.set.shape S.set.limits opened (until m (happened opened es)) kept may ask
-
-    answered : now.journal ≡ below m r.journal
-    answered =
-        journal_at opened es story.found.opened r.new.moment m kept.noted.quiet rises (ap (λ (xs : List JournalEntry). below m xs) silent ∙ sym silent)
-        ∙ ap (λ (c : Core). below m c.journal) (sym (last_is S r story went)) ∙ ap (λ (xs : List JournalEntry). below m xs) (sym went.journal)
+    now_kept = there_kept S r story went (until m (happened opened es)) front.rest front.is
 
     none_refused : (o : Option CoreFault) → now.ended ≡ o → is_refused o ≡ false → now.refused ≡ []
     none_refused None is h = now_kept.noted.going is
@@ -259,34 +285,38 @@ module _ (S : Script) (r : Ran) (story : Story) (went : Went S r story) (one : S
     none_refused (Some fault.OpsFull) is h = absurd (not_both h)
     none_refused (Some fault.NoMemory) is h = absurd (steps_memory opened (until m (happened opened es)) (λ e. clash (sym going ∙ e)) is)
 
-    -- who is not good then was the last to fall
-    fallen : (peer : ℕ) → peer < S.set.shape.shards * S.set.shape.copies → note_count peer (below m r.journal) ≡ 0 → NoneFails S r peer → (f : CoreFault) → now.ended ≡ Some f → Fell (mute S.commands) peer now → ⊥
-    fallen peer low untold none f over (inl noted) =
-        let all : note_count peer (told_of now) ≡ note_count peer now.journal + note_count peer now.refused = count_parts peer now.journal now.refused in
-        let clean : note_count peer now.refused ≡ 0 = ap (λ (xs : List JournalEntry). note_count peer xs) (none_refused now.ended refl (not_refused opened es m (ap is_refused going))) ∙ refl in
-        let told : note_count peer now.journal ≡ 0 = ap (λ (xs : List JournalEntry). note_count peer xs) answered ∙ untold in
-        omega (arith, noted, all, clean, told)
-    fallen peer low untold none f over (inr own) =
-        let last : last_core S story ≡ now =
-        last_is S r story went ∙ ap (λ xs. steps opened xs) front.is ∙ steps_append opened (until m (happened opened es)) front.rest ∙ steps_over now front.rest f over in
-        none now.progress.event_line (subst (λ (c : Core). c.progress.event_line ≤ r.line) last (last_line S r story went)) (mute_some S.commands now.progress.event_line (command.Fail peer) own)
+    -- behind the opening what was told then is below
+    answered : story.found.opened < m → now.journal ≡ below m r.journal
+    answered later =
+        journal_at opened es story.found.opened r.new.moment m kept.noted.quiet rises
+        (all_below m opened.journal (λ i entry at. (let up = kept.turn.turns.until i entry (at_left opened.journal opened.refused i entry at) in
+        let first = moment_first S.set.shape S.set.limits (opens_with S.set story.found) story.found.opened went.found.goods in omega (arith, up, first, later))))
+        ∙ ap (λ (c : Core). below m c.journal) (sym (last_is S r story went)) ∙ ap (λ (xs : List JournalEntry). below m xs) (sym went.journal)
 
-    is_now : (peer : ℕ) → peer < S.set.shape.shards * S.set.shape.copies → note_count peer (below m r.journal) ≡ 0 → NoneFails S r peer → (b : Bool) → is_good_status (status_of peer now) ≡ b → is_good_status (status_of peer now) ≡ true
-    is_now peer low untold none true is = is
-    is_now peer low untold none false is = by_end now.ended refl
-      where
-        by_end : (o : Option CoreFault) → now.ended ≡ o → is_good_status (status_of peer now) ≡ true
-        by_end None on = absurd (bad_ended (mute S.commands) S.set.shape S.set.limits one now now_kept peer low is on)
-        by_end (Some f) over = elim (all_fell (mute S.commands) S.set.shape S.set.limits one opened (until m (happened opened es)) kept may ask going peer low) [
+    module _ (untold : note_count peer (below m r.journal) ≡ 0) (none : NoneFails S r peer) where
+      fallen : story.found.opened < m → Fell (mute S.commands) peer now → ⊥
+      fallen later (inl noted) =
+          let all : note_count peer (told_of now) ≡ note_count peer now.journal + note_count peer now.refused = count_parts peer now.journal now.refused in
+          let clean : note_count peer now.refused ≡ 0 = ap (λ (xs : List JournalEntry). note_count peer xs) (none_refused now.ended refl (not_refused opened es m (ap is_refused going))) ∙ refl in
+          let told : note_count peer now.journal ≡ 0 = ap (λ (xs : List JournalEntry). note_count peer xs) (answered later) ∙ untold in
+          omega (arith, noted, all, clean, told)
+      fallen later (inr (line, upto, own)) =
+          let last = line_begun S r story went (until m (happened opened es)) front.rest front.is in
+          none line (omega (arith, upto, last)) (mute_some S.commands line (command.Fail peer) own)
+
+      is_now : is_good_status (status_of peer now) ≡ true
+      is_now = elim (le_or m story.found.opened) [
+        | inl early ↦ ap (λ xs. is_good_status (status_of peer (steps opened xs))) (none_until m story.found.opened r.new.moment opened es rises early) ∙ ap is_good_status first_good
+        | inr later ↦ elim (all_fell (mute S.commands) S.set.shape S.set.limits opened (until m (happened opened es)) kept come ask peer low first_good) [
           | inl good ↦ ap is_good_status good
-          | inr fell ↦ absurd (fallen peer low untold none f over fell)
+          | inr fell ↦ absurd (fallen later fell)
         ]
+      ]
 
-    pub good_untold : (peer : ℕ) → peer < S.set.shape.shards * S.set.shape.copies → good_from false (first_items S.set.shape story.found r.old.moment) m peer ≡ true
-        → note_count peer (below m r.journal) ≡ 0 → NoneFails S r peer → is_good r.course m peer ≡ true
-    good_untold peer low begins untold none =
-        ap (λ items. good_from false items m peer) (went.course ∙ ap (λ xs. first_items S.set.shape story.found r.old.moment ++ items_of opened xs) same_events)
-        ∙ good-append false (first_items S.set.shape story.found r.old.moment) (items_of opened es) m peer
-        ∙ ap (λ b. good_from b (items_of opened es) m peer) (begins ∙ sym (first_good peer low))
-        ∙ good_at opened es story.found.opened r.new.moment m peer rises (subst (λ (z : Shape). peer < z.shards * z.copies) (sym kept.shaped) low)
-        ∙ is_now peer low untold none (is_good_status (status_of peer now)) refl
+      pub good_untold : good_from false (first_items S.set.shape story.found r.old.moment) m peer ≡ true → is_good r.course m peer ≡ true
+      good_untold begins =
+          ap (λ items. good_from false items m peer) (went.course ∙ ap (λ xs. first_items S.set.shape story.found r.old.moment ++ items_of opened xs) same_events)
+          ∙ good-append false (first_items S.set.shape story.found r.old.moment) (items_of opened es) m peer
+          ∙ ap (λ b. good_from b (items_of opened es) m peer) (begins ∙ sym (ap is_good_status first_good))
+          ∙ good_at opened es story.found.opened r.new.moment m peer rises (subst (λ (z : Shape). peer < z.shards * z.copies) (sym kept.shaped) low)
+          ∙ is_now

@@ -1,11 +1,10 @@
 pub mod Calm
-pub mod Causes
 pub mod Counts
 pub mod Deletion
 pub mod Ending
 pub mod Machine
 pub mod Moving
 pub mod Noted
+pub mod Opened
 pub mod Printing
-pub mod Quiet
 pub mod Settled

@@ -8,7 +8,7 @@ ghost use Rattle.hs_promise.specs.Entry.{entry_store};
 ghost use Rattle.hs_promise.specs.Machine.{NeverOpened, Went};
 ghost use Rattle.hs_promise.specs.Run.{Ran, Script};
 ghost use Rattle.hs_promise.specs.Story.{Story, all_events};
-ghost use Rattle.hs_standing.specs.Run.{MayRun, RunOpens};
+ghost use Rattle.hs_standing.specs.Run.{MayRun, RunBegins};
 ghost use Rattle.hs_standing.specs.Standing.{AllMayKeep};
 ghost use Rattle.hs_standing.specs.Start.{Start};
 
@@ -21,7 +21,7 @@ pub fn a_full_journal_deletes_as_promised()
     ensures went { (S : Script) (r : Ran) (story : Story)
         → Went S r story
         → let start : Start = record { set = S.set; commands = S.commands; entry = entry_store S r } in
-        RunOpens start story.found
+        RunBegins start story.found
         → AllMayKeep start (MayRun start) (first_core S.set story.found) (all_events story) →
         Deletes S (entry_store S r) (whole_of r) }
     ensures ended { (S : Script) (r : Ran) (story : Story) (fault : CoreFault)

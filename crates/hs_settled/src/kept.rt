@@ -10,7 +10,6 @@ ghost use Rattle.hs_settled.specs.Deletion.{TellsDeletion};
 ghost use Rattle.hs_events.specs.Course.{steps};
 ghost use Rattle.hs_events.specs.Due.{Events};
 ghost use Rattle.hs_events.specs.Found.{Found, first_core};
-ghost use Rattle.hs_events.specs.Whole.{Whole};
 ghost use Rattle.hs_fold.specs.Runs.Facts.{Catalogue as Folded};
 ghost use Rattle.hs_standing.specs.Copies.{AllComeOn, IsSeated, KnowsItsCopies};
 ghost use Rattle.hs_standing.specs.Held.{GivesAddresses};
@@ -19,7 +18,7 @@ ghost use Rattle.hs_standing.specs.Legal.{IsStanding, MayStand};
 ghost use Rattle.hs_limits.specs.declared.limits.Limits.{Limits};
 ghost use Rattle.hs_limits.specs.declared.shape.Shape.{Shape};
 ghost use Rattle.hs_model.specs.Store.{Store};
-ghost use Rattle.hs_standing.specs.Run.{IsRunning, MayRun, RunOpens};
+ghost use Rattle.hs_standing.specs.Run.{MayRun, RunBegins};
 ghost use Rattle.hs_standing.specs.Standing.{AllMayKeep, judging_of};
 ghost use Rattle.hs_standing.specs.Start.{Start};
 
@@ -34,7 +33,7 @@ use hs_effects::{
     an_enter_by_itself_is_told,
 };
 use hs_laws::sweep_is_exact;
-use hs_standing::a_run_goes_on;
+use hs_memory::catalogues_in_memory_are_folds;
 
 /// A core that opens has told of no sweep and of no run that is done, whatever the number of copies
 /// (`opens`). Of a core that stands, between two events, each event that may come keeps the rule: each
@@ -82,7 +81,7 @@ pub fn each_event_keeps_the_rule_of_done()
 /// one of them.
 pub fn a_run_keeps_the_rule_of_done()
     ensures { (start : Start) (found : Found) (events : Events)
-        → RunOpens start found
+        → RunBegins start found
         → AllMayKeep start (MayRun start) (first_core start.set found) events →
         TellsDeletion (judging_of start) start.entry
         (steps (first_core start.set found) events) }
@@ -100,28 +99,5 @@ pub fn a_run_keeps_the_rule_of_done()
     an_enter_by_itself_is_told();
     a_got_is_silent_or_a_sweep();
     sweep_is_exact();
-    a_run_goes_on();
-}
-
-/// From a state of such a run on, in which it was kept, it is kept behind each front of the events.
-pub fn each_front_of_a_run_keeps_the_rule_of_done()
-    ensures { (start : Start) (c : Whole) (events : Events)
-        → IsRunning start c → AllMayKeep start (MayRun start) c.core events
-        → TellsDeletion (judging_of start) start.entry c.core →
-        (n : ℕ) → TellsDeletion (judging_of start) start.entry (steps c.core (take n events)) }
-{
-    a_step_that_answers_is_the_judges();
-    an_answer_is_the_judges();
-    a_read_is_the_judges();
-    a_write_is_the_judges();
-    views_show_the_store();
-    a_new_block_is_answered_at_its_effect();
-    a_present_block_is_answered_at_its_effect();
-    a_root_is_answered_at_its_effect();
-    a_drop_is_answered_at_its_effect();
-    a_delete_is_answered_at_its_effect();
-    an_enter_by_itself_is_told();
-    a_got_is_silent_or_a_sweep();
-    sweep_is_exact();
-    a_run_goes_on();
+    catalogues_in_memory_are_folds();
 }

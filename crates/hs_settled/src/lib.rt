@@ -22,12 +22,10 @@ mod nothing;
 mod order;
 mod promised;
 mod prompt;
-mod quiet;
 mod refusals;
 mod rest;
 mod settled;
 mod short;
-mod waits;
 
 pub use causes::each_status_has_its_cause;
 pub use counts::each_core_of_a_run_counts_right;
@@ -35,14 +33,11 @@ pub use dates::notes_have_their_line;
 pub use ending::a_calm_run_ends_well;
 pub use entries::each_entry_stands_for_its_cause;
 pub use failures::a_failed_disk_is_told_once;
-pub use first::{the_first_shard_enters_for_a_line, the_first_shard_of_copies_enters_for_a_line};
+pub use first::the_first_shard_enters_for_a_line;
 pub use full::a_full_journal_deletes_as_promised;
 pub use going::each_operation_goes_on;
 pub use good::a_peer_is_good_until_it_is_told;
-pub use kept::{
-    a_run_keeps_the_rule_of_done, each_event_keeps_the_rule_of_done,
-    each_front_of_a_run_keeps_the_rule_of_done,
-};
+pub use kept::{a_run_keeps_the_rule_of_done, each_event_keeps_the_rule_of_done};
 pub use led::shard_0_is_led_by_lines;
 pub use machine::a_core_counts_right;
 pub use note_ends::a_note_ends_the_run;
@@ -52,11 +47,7 @@ pub use nothing::{a_run_without_a_course_began_nothing, a_run_without_a_course_h
 pub use order::a_journal_is_in_order;
 pub use promised::a_run_deletes_as_promised;
 pub use prompt::a_prompt_line_has_its_entry;
-pub use quiet::a_quiet_store_has_nothing_open;
 pub use refusals::a_refusal_comes_where_its_row_says;
 pub use rest::a_settle_comes_to_rest;
-pub use settled::{
-    a_settle_that_ends_quiet_settles, a_settle_with_nothing_open_settles, each_settle_settles,
-};
+pub use settled::each_settle_settles;
 pub use short::a_calm_journal_is_short;
-pub use waits::{each_entry_is_to_be_sealed, nothing_waits_where_no_job_is_left};

@@ -26,7 +26,7 @@ use Rattle.hs_top.specs.Rest.{EndsAtRest, HasOneList}
 -- what hs_settled says of good peers and of notes
 pub record GoodLaws : Type 0 where
   pub opens : (S : Script) (r : Ran) (story : Story) → S.set.shape.copies ≡ 1 → Went S r story → IsPast r 0 → (peer : ℕ) → peer < peer_count S.set.shape → starts_good story.found peer ≡ true
-  pub stays : (S : Script) (r : Ran) (story : Story) → S.set.shape.copies ≡ 1 → Went S r story → IsPast r 0 → (m peer : ℕ) → peer < peer_count S.set.shape
+  pub stays : (S : Script) (r : Ran) (story : Story) → Went S r story → IsPast r 0 → (m peer : ℕ) → peer < peer_count S.set.shape → starts_good story.found peer ≡ true
       → good_from false (first_items S.set.shape story.found r.old.moment) m peer ≡ true → note_count peer (below m r.journal) ≡ 0 → NoneFails S r peer → is_good r.course m peer ≡ true
   pub notes : (S : Script) (r : Ran) (how : Option Story) → S.set.shape.copies ≡ 1 → WentAs S r how → NotesEnd r
 
@@ -61,8 +61,9 @@ module _ (laws : GoodLaws) (tells : Type 0) (S : Script) (r : Ran) (one : S.set.
       let count : S.set.shape.shards * S.set.shape.copies ≡ S.set.shape.shards = ap (λ n. S.set.shape.shards * n) one ∙ omega arith in
       let within : peer < S.set.shape.shards * S.set.shape.copies = low in
       let up = cluster.served.time.later in
-      laws.stays S r story one went (opening_past r past) (r.new.moment + 1) peer low
-      (opens_good S r story went.found one (r.new.moment + 1) peer (omega (arith, up)) (omega (arith, within, count)) (laws.opens S r story one went (opening_past r past) peer low))
+      let start : starts_good story.found peer ≡ true = laws.opens S r story one went (opening_past r past) peer low in
+      laws.stays S r story went (opening_past r past) (r.new.moment + 1) peer low start
+      (opens_good S r story went.found one (r.new.moment + 1) peer (omega (arith, up)) (omega (arith, within, count)) start)
       (none_below (r.new.moment + 1) peer r.journal ((laws.notes S r cluster.how one cluster.went).past past peer)) (none peer)
 
   pub ends_rest : r.new.moment + 1 < 2 ^ 64 - 1 → ((peer : ℕ) → peer < length r.new.disks → HasOneList (disk_at r.new.disks peer)) → EndsAtRest S r

@@ -1,5 +1,6 @@
 -- The laws by which a run keeps what is promised of it, as calls of them ensure them.
 use Rattle.std.specs.Prelude.{All, IfSome, None, Option, Some, [], false, length, true, ℕ, ◌++◌, ◌+◌, ◌<◌, ◌≡◌, ◌≤◌, List}
+use Rattle.hs_settled.specs.Opened.{IsAsideAs, OpensRanked}
 use Rattle.hs_settled.specs.Printing.{FailsInOpening, FailsInText, LeavesUnread}
 use Rattle.hs_clauses.specs.Asked.{start_of}
 use Rattle.hs_clauses.specs.Shown.{IsShown, IsToldRun, OnDisks}
@@ -42,7 +43,7 @@ use Rattle.hs_promise.specs.Story.{Story, all_events}
 use Rattle.hs_promise.specs.Untold.{NoneFails}
 use Rattle.hs_script.specs.Reading.{commands}
 use Rattle.hs_side.specs.declared.header.Header.{Header}
-use Rattle.hs_standing.specs.Run.{MayRun, RunOpens}
+use Rattle.hs_standing.specs.Run.{MayRun, RunBegins}
 use Rattle.hs_standing.specs.Standing.{AllMayKeep}
 
 -- what a peer is to read is in what is sealed of its list
@@ -58,10 +59,10 @@ pub record Laws : Type 0 where
   pub keeps : (S : Script) (r : Ran) → IsToldRun S r → IsSoundAtEntry S r → KeepsAlong S (entry_store S r) r
   pub stops : (S : Script) (r : Ran) → IsToldRun S r → MayStop S r → Stops S (entry_store S r) r
   -- deletion
-  pub opens : (S : Script) (r : Ran) (story : Story) → OnDisks S r → IsShown S r story → IsSoundAtEntry S r → (first_core S.set story.found).ended ≡ None → RunOpens (start_of S r) story.found
+  pub opens : (S : Script) (r : Ran) (story : Story) → OnDisks S r → IsShown S r story → IsSoundAtEntry S r → (first_core S.set story.found).ended ≡ None → RunBegins (start_of S r) story.found
   pub stands : (S : Script) (r : Ran) (story : Story) → OnDisks S r → IsShown S r story → IsSoundAtEntry S r → (first_core S.set story.found).ended ≡ None
       → AllMayKeep (start_of S r) (MayRun (start_of S r)) (first_core S.set story.found) (all_events story)
-  pub deletes : (S : Script) (r : Ran) (story : Story) → Went S r story → RunOpens (start_of S r) story.found
+  pub deletes : (S : Script) (r : Ran) (story : Story) → Went S r story → RunBegins (start_of S r) story.found
       → AllMayKeep (start_of S r) (MayRun (start_of S r)) (first_core S.set story.found) (all_events story) → Deletes S (entry_store S r) r
   pub deletes_ended : (S : Script) (r : Ran) (story : Story) (fault : CoreFault) → Went S r story → (first_core S.set story.found).ended ≡ Some fault → Deletes S (entry_store S r) r
   pub deletes_never : (S : Script) (r : Ran) → NeverOpened r → Deletes S (entry_store S r) r
@@ -70,7 +71,7 @@ pub record Laws : Type 0 where
   pub dated : (S : Script) (r : Ran) (how : Option Story) → WentAs S r how → AreDated S.commands r.journal
   pub nothing : (S : Script) (r : Ran) (how : Option Story) → IsShape S.set.shape → WentAs S r how → IfSome how (LeavesUnread S r) → r.course ≡ [] → BeganNothing r
   pub start_good : (S : Script) (r : Ran) (story : Story) → S.set.shape.copies ≡ 1 → Went S r story → IsPast r 0 → (peer : ℕ) → peer < peer_count S.set.shape → starts_good story.found peer ≡ true
-  pub stay_good : (S : Script) (r : Ran) (story : Story) → S.set.shape.copies ≡ 1 → Went S r story → IsPast r 0 → (m peer : ℕ) → peer < peer_count S.set.shape
+  pub stay_good : (S : Script) (r : Ran) (story : Story) → Went S r story → IsPast r 0 → (m peer : ℕ) → peer < peer_count S.set.shape → starts_good story.found peer ≡ true
       → good_from false (first_items S.set.shape story.found r.old.moment) m peer ≡ true → note_count peer (below m r.journal) ≡ 0 → NoneFails S r peer → is_good r.course m peer ≡ true
   pub notes_end : (S : Script) (r : Ran) (how : Option Story) → S.set.shape.copies ≡ 1 → WentAs S r how → NotesEnd r
   pub ordered : (S : Script) (r : Ran) (how : Option Story) → client_op (S.commands 0) ≡ None → WentAs S r how → IsOrdered S.commands r.journal
@@ -79,27 +80,28 @@ pub record Laws : Type 0 where
   pub any_cause : (S : Script) (r : Ran) (how : Option Story) → WentAs S r how → (r.ending ≡ status.ReadFault → HasRisen r.old.source_faults r.new.source_faults)
       → (r.ending ≡ status.WriteFault → HasRisen r.old.sink_faults r.new.sink_faults)
       → ((peer : ℕ) (found : Header) → r.ending ≡ status.WrongShape peer found → peer < peer_count S.set.shape) → CauseButLoss S r r.ending
-  pub cause : (S : Script) (r : Ran) (how : Option Story) → S.set.shape.copies ≡ 1 → WentAs S r how → (r.ending ≡ status.ReadFault → HasRisen r.old.source_faults r.new.source_faults)
+  pub cause : (S : Script) (r : Ran) (how : Option Story) → WentAs S r how → ((S.set.shape.copies ≡ 1 → ⊥) → IfSome how (λ story. OpensRanked S.set story.found)) → (r.ending ≡ status.ReadFault → HasRisen r.old.source_faults r.new.source_faults)
       → (r.ending ≡ status.WriteFault → HasRisen r.old.sink_faults r.new.sink_faults)
       → ((peer : ℕ) (found : Header) → r.ending ≡ status.WrongShape peer found → peer < peer_count S.set.shape) → Cause S r r.ending
   -- notes
-  pub notes : (S : Script) (r : Ran) (story : Story) → S.set.shape.copies ≡ 1 → Went S r story → ((peer : ℕ) → peer < peer_count S.set.shape → IsReadAs r story peer)
+  pub notes : (S : Script) (r : Ran) (story : Story) → Went S r story → ((peer : ℕ) → peer < peer_count S.set.shape → IsReadAs r story peer)
       → ((disk : ℕ) → DiskRose r (loss_count story disk) disk)
-      → ((first_core S.set story.found).ended ≡ None → (disk : ℕ) → DiskRose r (failures true disk (first_core S.set story.found) (all_events story) + loss_count story disk) disk) → NotesCause S r
+      → ((first_core S.set story.found).ended ≡ None → (disk : ℕ) → DiskRose r (failures true disk (first_core S.set story.found) (all_events story) + loss_count story disk) disk)
+      → ((S.set.shape.copies ≡ 1 → ⊥) → (peer : ℕ) → peer < peer_count S.set.shape → starts_good story.found peer ≡ false → IsAsideAs S r story peer) → NotesCause S r
   pub notes_never : (S : Script) (r : Ran) → NeverOpened r → ((disk : ℕ) → faults_at r.old.disk_faults disk ≤ faults_at r.new.disk_faults disk) → NotesCause S r
   pub stored : StoresBlocks
   -- settles
-  pub settles : (S : Script) (r : Ran) (story : Story) → Went S r story → S.commands 0 ≡ None → RunOpens (start_of S r) story.found
+  pub settles : (S : Script) (r : Ran) (story : Story) → Went S r story → S.commands 0 ≡ None → RunBegins (start_of S r) story.found
       → AllMayKeep (start_of S r) (MayRun (start_of S r)) (first_core S.set story.found) (all_events story) → Answers S (entry_store S r) r.journal
       → SettlesEach S (entry_store S r) r
   -- ends
   pub valid : (S : Script) (r : Ran) → IsSoundAtEntry S r → IsValid (entry_store S r)
-  pub whole : (S : Script) (r : Ran) (story : Story) → Went S r story → RunOpens (start_of S r) story.found
+  pub whole : (S : Script) (r : Ran) (story : Story) → Went S r story → RunBegins (start_of S r) story.found
       → AllMayKeep (start_of S r) (MayRun (start_of S r)) (first_core S.set story.found) (all_events story) → Deletes S (entry_store S r) (whole_of r)
   pub whole_ended : (S : Script) (r : Ran) (story : Story) (fault : CoreFault) → Went S r story → (first_core S.set story.found).ended ≡ Some fault
       → Deletes S (entry_store S r) (whole_of r)
   pub whole_never : (S : Script) (r : Ran) → NeverOpened r → Deletes S (entry_store S r) (whole_of r)
-  pub led : (S : Script) (r : Ran) (story : Story) → Went S r story → RunOpens (start_of S r) story.found
+  pub led : (S : Script) (r : Ran) (story : Story) → Went S r story → RunBegins (start_of S r) story.found
       → AllMayKeep (start_of S r) (MayRun (start_of S r)) (first_core S.set story.found) (all_events story) → AreLed (r.journal ++ r.refused)
   pub led_ended : (S : Script) (r : Ran) (story : Story) (fault : CoreFault) → Went S r story → (first_core S.set story.found).ended ≡ Some fault
       → AreLed (r.journal ++ r.refused)

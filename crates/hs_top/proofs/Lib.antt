@@ -9,5 +9,6 @@ pub mod LoadLemmas
 pub mod NoteLemmas
 pub mod PastLemmas
 pub mod PromisedLemmas
+pub mod RankLemmas
 pub mod RestLemmas
 pub mod SettleLemmas

@@ -31,6 +31,7 @@ use Rattle.hs_run.specs.Machine.{HasItsEnd, HasReadDisks, IsOfCluster, IsUnopene
 use Rattle.hs_script.specs.Reading.{commands}
 use Rattle.hs_top.proofs.LawLemmas.{Laws}
 use Rattle.hs_top.proofs.NoteLemmas.{WhyAside, failed_by, never_aside, why_aside}
+use Rattle.hs_top.proofs.RankLemmas.{ranked_by}
 use Rattle.hs_top.proofs.SettleLemmas.{no_line, settles_none}
 use Rattle.hs_top.proofs.PastLemmas.{never_past}
 use Rattle.hs_top.specs.Calls.{Promised, PromisedAlone, PromisedWhereTold}
@@ -77,7 +78,7 @@ module _ (laws : Laws) (tells : Type 0) (S : Script) (r : Ran) (names : GivesAdd
         disks = cluster.count ∙ ap (λ n. S.set.shape.shards * n) one ∙ omega arith
 
     cause : Cause S r r.ending
-    cause = laws.cause S r cluster.how one cluster.went cluster.served.causes.read cluster.served.causes.write cluster.served.within
+    cause = laws.cause S r cluster.how cluster.went (λ several. absurd (several one)) cluster.served.causes.read cluster.served.causes.write cluster.served.within
 
     good_by : (how : Option Story) → WentAs S r how → IsGoodUntold S r
     good_by None went past m peer during low untold none = absurd (never_past r went past)
@@ -85,7 +86,7 @@ module _ (laws : Laws) (tells : Type 0) (S : Script) (r : Ran) (names : GivesAdd
         let start : starts_good story.found peer ≡ true = laws.start_good S r story one went past peer low in
         let count : S.set.shape.shards * S.set.shape.copies ≡ S.set.shape.shards = ap (λ n. S.set.shape.shards * n) one ∙ omega arith in
         let within : peer < S.set.shape.shards * S.set.shape.copies = low in
-        laws.stay_good S r story one went past m peer low (opens_good S r story went.found one m peer during.above (omega (arith, within, count)) start) untold none
+        laws.stay_good S r story went past m peer low start (opens_good S r story went.found one m peer during.above (omega (arith, within, count)) start) untold none
 
     -- ---- what stands where the disks tell
 
@@ -118,7 +119,7 @@ module _ (laws : Laws) (tells : Type 0) (S : Script) (r : Ran) (names : GivesAdd
       notes_by : (how : Option Story) → WentAs S r how → IfSome how (HasReadDisks S r) → IfSome how (RunsOnDisks tells S r) → ShownAs S r how → NotesCause S r
       notes_by None went read runs so = laws.notes_never S r went cluster.served.counts.disks
       notes_by (Some story) went read runs so =
-          laws.notes S r story one went read.read (runs.lost told) (λ going. failed_by laws S r story on so going tells told runs)
+          laws.notes S r story went read.read (runs.lost told) (λ going. failed_by laws S r story on so going tells told runs) (λ several. absurd (several one))
 
       -- ---- what each settle has done
 
@@ -206,6 +207,7 @@ module _ (laws : Laws) (tells : Type 0) (S : Script) (r : Ran) (names : GivesAdd
     counts = cluster.served.counts;
     no_load = cluster.served.no_load;
     cause = laws.any_cause S r cluster.how cluster.went cluster.served.causes.read cluster.served.causes.write cluster.served.within;
+    lost = λ told. laws.cause S r cluster.how cluster.went (λ several. ranked_by S r cluster.how cluster.shape cluster.went (cluster.told told)) cluster.served.causes.read cluster.served.causes.write cluster.served.within;
     calm = cluster.served.calm;
     ordered = laws.ordered S r cluster.how nobody cluster.went;
     none_good = λ none. laws.none_good S r cluster.how cluster.went cluster.shape in_opening none;

@@ -40,7 +40,7 @@ pub record PromisedWhereTold (S : Script) (r : Ran) : Type 0 where
   pub aside : (peer : ℕ) → peer < length r.old.disks → is_aside S r peer ≡ true → DiskRose r 1 peer ⊎ (list_in (disk_at r.old.disks peer).seen ≡ None)
   pub notes : NotesCause S r
 
--- so far with one copy a shard: why one is lost, what notes tell, and how long a peer is good
+-- so far with one copy a shard: why one is lost, whatever the disks tell; what notes tell, and how long a peer is good
 pub record PromisedAlone (tells : Type 0) (S : Script) (r : Ran) : Type 0 where
   pub cause : Cause S r r.ending
   pub good : IsGoodUntold S r
@@ -57,6 +57,7 @@ pub record Promised (tells : Type 0) (S : Script) (r : Ran) : Type 0 where
   pub counts : CountsStand r.old r.new
   pub no_load : IsNoLoad r
   pub cause : CauseButLoss S r r.ending
+  pub lost : tells → Cause S r r.ending
   pub calm : EndsCalm S r
   pub ordered : IsOrdered S.commands r.journal
   pub none_good : r.course ≡ [] → NoneGoodCause S r

@@ -1,14 +1,12 @@
 use Rattle.hs_settled.proofs.DeletesCountLemmas.{CountLaws, core_right}
-use Rattle.hs_settled.proofs.FrontLemmas.{Stands, front_stands}
-use Rattle.hs_settled.proofs.DeletesRunLemmas.{Running}
+use Rattle.hs_settled.proofs.BegunLemmas.{Told, stands}
 use Rattle.hs_settled.proofs.counts.each_core_of_a_run_counts_right.Goals as goal
 use Rattle.hs_events.specs.Course.{steps}
 use Rattle.hs_events.specs.Found.{first_core}
-use Rattle.hs_events.specs.Whole.{open_whole}
 use Rattle.hs_standing.proofs.AlongWalkLemmas.{come_front}
 use Rattle.hs_standing.specs.Legal.{MayStand}
 use Rattle.hs_standing.specs.Standing.{judging_of}
-use Rattle.std.specs.Prelude.{take}
+use Rattle.std.proofs.Common.{drop, sym, take, take-append-drop}
 
 pub returns-clause-stands : goal.returns-clause-stands
 returns-clause-stands c = λ by start core cs its.
@@ -19,18 +17,6 @@ returns-clause-stands c = λ by start core cs its.
       counted = c.histories_are_counted.ensures.counted;
     } in
     core_right laws by start core cs its
-
-pub returns-clause-events : goal.returns-clause-events
-returns-clause-events c = λ start w events run may n.
-    let laws : CountLaws = record {
-      counts = c.counts_of_catalogues_are_right.ensures.counts;
-      none = c.no_reached_block_is_a_wrong_zero.ensures.none;
-      found = c.each_unreached_block_is_found.ensures.found;
-      counted = c.histories_are_counted.ensures.counted;
-    } in
-    let running : Running = record { opens = c.a_run_goes_on.ensures.opens; goes_on = c.a_run_goes_on.ensures.goes_on } in
-    let its : Stands start (steps w.core (take n events)) = front_stands c.each_event_is_told.ensures.event running start events w run may n in
-    core_right laws (judging_of start) start.entry (steps w.core (take n events)) its.0 its.1
 
 pub returns-clause-copies : goal.returns-clause-copies
 returns-clause-copies c = λ by start core events cs names valid clean told may stands n.
@@ -44,13 +30,13 @@ returns-clause-copies c = λ by start core events cs names valid clean told may 
     core_right laws by start (steps core (take n events)) its.0 its.1
 
 pub returns-clause-run : goal.returns-clause-run
-returns-clause-run c = λ start found events opens may n.
+returns-clause-run c = λ start found events b may n.
     let laws : CountLaws = record {
       counts = c.counts_of_catalogues_are_right.ensures.counts;
       none = c.no_reached_block_is_a_wrong_zero.ensures.none;
       found = c.each_unreached_block_is_found.ensures.found;
       counted = c.histories_are_counted.ensures.counted;
     } in
-    let running : Running = record { opens = c.a_run_goes_on.ensures.opens; goes_on = c.a_run_goes_on.ensures.goes_on } in
-    let its : Stands start (steps (first_core start.set found) (take n events)) = front_stands c.each_event_is_told.ensures.event running start events (open_whole start.set found) (running.opens start found opens) may n in
+    let told : Told = record { opens = c.each_event_is_told.ensures.opens; events = c.each_event_is_told.ensures.events } in
+    let its = stands start found b c.catalogues_in_memory_are_folds.ensures.list events may told (take n events) (drop n events) (sym (take-append-drop n events)) in
     core_right laws (judging_of start) start.entry (steps (first_core start.set found) (take n events)) its.0 its.1

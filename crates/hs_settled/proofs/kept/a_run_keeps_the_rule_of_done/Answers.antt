@@ -1,5 +1,5 @@
 use Rattle.hs_settled.proofs.DeletesEventLemmas.{LawsBelow}
-use Rattle.hs_settled.proofs.DeletesRunLemmas.{Running, run_deletes}
+use Rattle.hs_settled.proofs.PromiseLemmas.{run_deletes}
 use Rattle.hs_settled.proofs.kept.a_run_keeps_the_rule_of_done.Goals as goal
 
 pub returns : goal.returns
@@ -27,5 +27,4 @@ returns c = λ start found events opens may.
         sweeps_nothing = c.a_got_is_silent_or_a_sweep.ensures.silent;
       };
     } in
-    let running : Running = record { opens = c.a_run_goes_on.ensures.opens; goes_on = c.a_run_goes_on.ensures.goes_on } in
-    run_deletes below running start found events opens may
+    run_deletes below c.catalogues_in_memory_are_folds.ensures.list start found events opens may

@@ -1,16 +1,11 @@
-use Rattle.hs_settled.proofs.DeletesRunLemmas.{Running}
-use Rattle.hs_settled.proofs.AnsweredLemmas.{ends, rests}
-use Rattle.hs_settled.proofs.EndLemmas.{Going}
+use Rattle.hs_promise.specs.Entry.{entry_store}
+use Rattle.hs_quiet.proofs.SweptLemmas.{Below}
+use Rattle.hs_settled.proofs.AnsweredLemmas.{along, rests}
+use Rattle.hs_settled.proofs.BegunLemmas.{Told}
 use Rattle.hs_settled.proofs.rest.a_settle_comes_to_rest.Goals as goal
 
-pub returns-clause-due : goal.returns-clause-due
-returns-clause-due c = λ S r story line went none opens may settle past.
-    let running : Running = record { opens = c.a_run_goes_on.ensures.opens; goes_on = c.a_run_goes_on.ensures.goes_on } in
-    let its = ends S r story went none running opens may line settle past in
-    (its.place, its.none)
-
-pub returns-clause-waits : goal.returns-clause-waits
-returns-clause-waits c = λ S r story line went none opens may settle past.
-    let running : Running = record { opens = c.a_run_goes_on.ensures.opens; goes_on = c.a_run_goes_on.ensures.goes_on } in
-    let going : Going = record { opened = c.each_operation_goes_on.ensures.opened; events = c.each_operation_goes_on.ensures.events; settled = c.nothing_waits_where_no_job_is_left.ensures.settled } in
-    rests S r story went none running opens may going line settle past
+pub returns : goal.returns
+returns c = λ S r story line went none begins may room settle past.
+    let told : Told = record { opens = c.each_event_is_told.ensures.opens; events = c.each_event_is_told.ensures.events } in
+    let below : Below = record { joined = c.folds_follow_the_machine.ensures.joined; step = c.rounds_run_in_step.ensures.step; on = c.a_run_goes_on.ensures.on } in
+    rests S r story went none (entry_store S r) (along told c.catalogues_in_memory_are_folds.ensures.list S (entry_store S r) story begins may) below room line settle past

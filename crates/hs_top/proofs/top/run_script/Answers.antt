@@ -1,4 +1,6 @@
 use Rattle.std.proofs.Common.{◌≡◌}
+use Rattle.hs_clauses.specs.Asked.{start_of}
+use Rattle.hs_standing.proofs.TakenLemmas.{run_begins}
 use Rattle.hs_top.proofs.LawLemmas.{Laws}
 use Rattle.hs_top.proofs.PromisedLemmas.{promised_of}
 use Rattle.hs_top.proofs.top.run_script.Goals as goal
@@ -10,7 +12,7 @@ returns g c =
       full = c.a_run_is_answered.ensures.full;
       keeps = c.a_run_keeps.ensures.run;
       stops = c.a_run_may_stop.ensures;
-      opens = c.a_run_stands.ensures.opens;
+      opens = λ S r story on shown sound going. run_begins (start_of S r) story.found (c.a_run_stands.ensures.opens S r story on shown sound going);
       stands = c.a_run_stands.ensures.keeps;
       deletes = c.a_run_deletes_as_promised.ensures.went;
       deletes_ended = c.a_run_deletes_as_promised.ensures.ended;
@@ -25,7 +27,7 @@ returns g c =
       none_good = c.a_run_without_a_course_has_its_cause.ensures;
       prompt = c.a_prompt_line_has_its_entry.ensures;
       any_cause = c.each_status_has_its_cause.ensures.any;
-      cause = c.each_status_has_its_cause.ensures.one;
+      cause = c.each_status_has_its_cause.ensures.lost;
       notes = c.each_note_has_its_cause.ensures.opened;
       notes_never = c.each_note_has_its_cause.ensures.never;
       stored = c.what_is_read_is_sealed.ensures.opens;
