@@ -5,7 +5,6 @@ use Rattle.hs_ports.specs.declared.disk.Side.TheVariants.{Zero, One}
 use Rattle.hs_ports.specs.Disk.{Standing, IsImage, Untouched, other_side, settled}
 use Rattle.hs_ports.specs.Moments.{EachMoment}
 use Rattle.hs_ports.proofs.Images.{settled_only}
-use Rattle.hs_ports.proofs.MomentLemmas.{weaker}
 use Rattle.hs_entry.specs.declared.entry.Entry.{Entry}
 use Rattle.hs_side.specs.declared.header.Header.{Header}
 use Rattle.hs_side.specs.Current.{current, generation_in, later_side, list_in}

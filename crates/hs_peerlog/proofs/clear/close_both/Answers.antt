@@ -1,5 +1,5 @@
-use Rattle.std.proofs.Common.{◌≡◌, ◌∙◌, ap, sym, subst, inl, inr}
-use Rattle.hs_ports.specs.Disk.{other_side, settled}
+use Rattle.std.proofs.Common.{◌∙◌, ap, sym, subst, inl, inr}
+use Rattle.hs_ports.specs.Disk.{settled}
 use Rattle.hs_side.specs.Giving.{IsBlankEverywhere}
 use Rattle.hs_peerlog.proofs.ImageLemmas.{current-same, two-sides}
 use Rattle.hs_peerlog.proofs.ResetLemmas.{alone-beside, gone-stays, other-headed, own-beside, own-headed, read-headed}
