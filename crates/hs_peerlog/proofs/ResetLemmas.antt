@@ -5,7 +5,6 @@ use Rattle.hs_ports.specs.declared.disk.Side.TheVariants.{Zero, One}
 use Rattle.hs_ports.specs.Disk.{Standing, IsImage, Untouched, other_side, settled}
 use Rattle.hs_ports.specs.Moments.{EachMoment}
 use Rattle.hs_ports.proofs.Images.{settled_only}
-use Rattle.hs_ports.proofs.MomentLemmas.{weaker}
 use Rattle.hs_entry.specs.declared.entry.Entry.{Entry}
 use Rattle.hs_side.specs.declared.header.Header.{Header}
 use Rattle.hs_side.specs.Current.{current, generation_in, later_side, list_in}
@@ -13,13 +12,14 @@ use Rattle.hs_side.specs.Giving.{GivesEmpty, IsBlankEverywhere}
 use Rattle.hs_side.specs.Reading.{is_blank, list_of, listed, log_of}
 use Rattle.hs_side.specs.Spelling.{spelled}
 use Rattle.hs_side.proofs.BlankLemmas.{blank_log, empty_log}
-use Rattle.hs_peerlog.specs.Heads.{IsBlankOrOf, KeepsHeader, LeavesHeader, SidesHave}
-use Rattle.hs_peerlog.specs.Images.{GivesClosed, IsOne, IsSole, IsStanding, LeavesEach, LeavesOnly}
+use Rattle.hs_peerlog.specs.Heads.{IsBlankOrOf, KeepsHeader, LeavesHeader}
+use Rattle.hs_peerlog.specs.Images.{GivesClosed, IsAlone, IsOne, IsSole, IsStanding, LeavesAll, LeavesEach, LeavesOnly}
 use Rattle.hs_peerlog.specs.Lists.{HasList, IsBlankBeside}
 use Rattle.hs_peerlog.specs.Steps.{CouldShow, CouldShowOrBlank, ShowsEach, current_bytes}
+use Rattle.hs_peerlog.proofs.CloseLemmas.{settled_blank}
 use Rattle.hs_peerlog.proofs.HeaderLemmas.{blank-headed, empty-headed}
 use Rattle.hs_peerlog.proofs.ImageLemmas.{Since, log-generation, two-sides}
-use Rattle.hs_peerlog.proofs.ShownLemmas.{Lists, image-header, one-shown, shown-header, shown-lists, then-shown, weaker-shown}
+use Rattle.hs_peerlog.proofs.ShownLemmas.{Lists, all-shown, image-header, one-shown, shown-header, shown-lists, then-shown, weaker-shown}
 use Rattle.hs_peerlog.proofs.SoleLemmas.{beside, beside-here, beside-there}
 
 pub twice : (s : Side) → other_side (other_side s) ≡ s
@@ -203,20 +203,25 @@ module _ (disk : Standing) (header : Header) (generation : ℕ) where
 
 -- ---- both sides are closed, whatever they had
 
--- calls on one side, which leave it blank or as it was, on a disk no side of which has another header
-module _ (header : Header) {before now : ℕ} {side : Side} {old new : Standing} (had : SidesHave old header) where
-  pub sides-shown : EachMoment before now side old new (IsBlankOrOf header) → old.last ≤ before → Since old → ShowsEach before now old new (IsBlankOrOf header)
-  sides-shown run last since = one-shown run last since (λ image g left. shows-one (λ bytes. IsBlankOrOf header bytes) side image g (had (other_side side) (image (other_side side)) left))
+-- a disk that was put on the medium: its other side is closed, and then the current one
+pub read-headed : {before now : ℕ} {a b : Standing} (header : Header) → LeavesHeader a header → LeavesAll before now a b → ShowsEach before now a b (IsBlankOrOf header)
+read-headed {a = a} header leaves one = weaker-shown (all-shown one) (λ bytes s. image-header a leaves bytes s)
 
-  pub sides-have : EachMoment before now side old new (IsBlankOrOf header) → SidesHave new header
-  sides-have run s content left = elim (two-sides side s) [
-    | inl e ↦ run.standing content (subst (λ x. IsImage (new.loose x) content) (sym e) left)
-    | inr e ↦ had (other_side side) content (subst (λ l. IsImage l content) run.other.loose (subst (λ x. IsImage (new.loose x) content) (sym e) left))
-  ]
+pub other-headed : {before first now : ℕ} {a b c : Standing} (header : Header) → LeavesHeader a header → LeavesAll before first a b → ShowsEach first now b c (CouldShow b) → ShowsEach before now a c (IsBlankOrOf header)
+other-headed {b = b} header leaves one two =
+    let so_far = read-headed header leaves one in
+    then-shown two so_far (λ bytes h. h) (λ bytes s. image-header b so_far.standing bytes s)
 
-  -- of a side that is closed, and of one that is put on the medium
-  pub closed-headed : EachMoment before now side old new (GivesClosed (old.loose side)) → EachMoment before now side old new (IsBlankOrOf header)
-  closed-headed run = weaker run (λ content g. elim g.one [ inl blank ↦ blank-headed header content blank | inr left ↦ had side content left ])
+pub own-headed : {before first second now : ℕ} {a b c d : Standing} (header : Header) → LeavesHeader a header → LeavesAll before first a b → ShowsEach first second b c (CouldShow b) → ShowsEach second now c d (CouldShowOrBlank c) → ShowsEach before now a d (IsBlankOrOf header)
+own-headed {c = c} header leaves one two three =
+    let so_far = other-headed header leaves one two in
+    then-shown three so_far (λ bytes h. h) (λ bytes s. elim s.one [ inl there ↦ image-header c so_far.standing bytes there | inr blank ↦ blank-headed header bytes blank ])
 
-  pub settled-headed : EachMoment before now side old new (IsImage (old.loose side)) → EachMoment before now side old new (IsBlankOrOf header)
-  settled-headed run = weaker run (λ content left. had side content left)
+-- a disk at rest, before and behind a call of its other side: what reads as blank is blank, whatever a crash leaves
+pub alone-beside : (side : Side) (disk : Standing) → IsAlone side disk → IsBlankBeside side disk
+alone-beside side disk alone blank = settled_blank (disk.loose (other_side side)) (disk.seen (other_side side)) (alone.settled (other_side side)) blank
+
+pub own-beside : (side : Side) (a b : Standing) → IsAlone side a → Untouched side a b → IsBlankBeside (other_side side) b
+own-beside side a b alone other =
+    subst (λ s. is_blank (b.seen s) ≡ true → IsBlankEverywhere (b.loose s)) (sym (twice side))
+    (λ blank. settled_blank (b.loose side) (b.seen side) (other.loose ∙ alone.settled side ∙ ap (λ x. settled x) (sym other.seen)) blank)

@@ -18,11 +18,6 @@ abbrev pub LeavesHeader : Standing → Header → Type 0
 LeavesHeader disk header =
     (image : Side → List ℕ) → IsStanding disk image → IsBlankOrOf header (image (current image))
 
--- and so is all that a crash leaves of either side
-abbrev pub SidesHave : Standing → Header → Type 0
-SidesHave disk header =
-    (side : Side) (content : List ℕ) → IsImage (disk.loose side) content → IsBlankOrOf header content
-
 -- calls on a disk from the moment before on: so is the current side of each image of a moment after
 -- before, and of each from now on; nothing is said of the last moment of a u64
 pub record KeepsHeader (before : ℕ) (disk : Standing) (header : Header) : Type 0 where

@@ -5,14 +5,14 @@ ghost use Rattle.hs_side.specs.declared.header.Header.{Header};
 ghost use Rattle.hs_side.specs.Giving.{IsBlankEverywhere};
 ghost use Rattle.hs_side.specs.Headers.{own_header};
 ghost use Rattle.hs_peerlog.specs.Caused.{IsCalm, IsCaused, IsOutside};
-ghost use Rattle.hs_peerlog.specs.Heads.{IsBlankOrOf, KeepsHeader, SidesHave};
+ghost use Rattle.hs_peerlog.specs.Heads.{IsBlankOrOf, KeepsHeader, LeavesHeader};
 ghost use Rattle.hs_peerlog.specs.Lists.{HasLog, IsReady};
 ghost use Rattle.hs_peerlog.specs.Past.{PastStays};
 ghost use Rattle.hs_peerlog.specs.Steps.{ShowsEach};
 
-use crate::close::{close, settle};
-use crate::empty::write_empty;
+use crate::empty::{close_other, close_own, write_empty};
 use crate::header::own_header;
+use crate::opening::current_side;
 use crate::{LogFault, PeerLog};
 use hs_entry::Rank;
 use hs_limits::Shape;
@@ -20,8 +20,8 @@ use hs_ports::{Disk, Side, Watch};
 use std::alloc::Global;
 
 impl PeerLog {
-    /// Makes a disk whose log can't be recovered an empty one: closes both sides, puts both on the
-    /// medium, and writes an empty log on side zero. Of the lists at its moments nothing is said: its
+    /// Makes a disk whose log can't be recovered an empty one: puts both sides on the medium, closes
+    /// the other side before the current one, and writes an empty log on side zero. Of the lists at its moments nothing is said: its
     /// disk counts as blank.
     pub fn clear<D: Disk>(
         alloc: Global,
@@ -39,9 +39,9 @@ impl PeerLog {
 
         ensures refused { IfErr result IsOutside }
 
-        // Whose header a crash leaves at each moment, where no side had another's.
+        // Whose header a crash leaves at each moment, where it left no other's before.
         ensures headed { D.tells → (D.stands disk.old).last ≤ watch.old
-            → SidesHave (D.stands disk.old) (own_header shape peer)
+            → LeavesHeader (D.stands disk.old) (own_header shape peer)
             → KeepsHeader watch.old (D.stands disk.new) (own_header shape peer) }
         ensures past { D.tells → (D.stands disk.old).last ≤ watch.old
             → PastStays watch.old watch.new (D.stands disk.old) (D.stands disk.new) }
@@ -64,14 +64,14 @@ impl PeerLog {
     }
 }
 
-/// Closes both sides, and puts both on the medium: both are blank then, whatever a crash leaves.
+/// Puts both sides on the medium, and closes both: both are blank then, whatever a crash leaves.
 fn close_both<D: Disk>(alloc: Global, disk: &mut D, watch: &mut Watch) -> Result<(), LogFault>
     ensures gone { D.tells → OnOk result ((side : Side)
         → IsBlankEverywhere ((D.stands disk.new).loose side)) }
     ensures refused { IfErr result IsOutside }
 
     ensures shown { (header : Header) → D.tells → (D.stands disk.old).last ≤ watch.old
-        → SidesHave (D.stands disk.old) header
+        → LeavesHeader (D.stands disk.old) header
         → ShowsEach watch.old watch.new (D.stands disk.old) (D.stands disk.new)
         (IsBlankOrOf header) }
     ensures past { D.tells → (D.stands disk.old).last ≤ watch.old
@@ -80,9 +80,12 @@ fn close_both<D: Disk>(alloc: Global, disk: &mut D, watch: &mut Watch) -> Result
     ensures calm { IsCalm (D.faults disk.old) (D.faults disk.new) result }
     ensures cause { IsCaused (D.faults disk.old) (D.faults disk.new) result }
 {
-    close(alloc, disk, watch, Side::Zero)?;
-    close(alloc, disk, watch, Side::One)?;
-    settle(disk, watch, Side::Zero)?;
-    settle(disk, watch, Side::One)?;
+    let side = match current_side(alloc, disk, watch) {
+        Ok(side) => side,
+        Err(fault) => return Err(fault),
+    };
+    // While the other side is not blank, the current one must not be: a crash would bring it back.
+    close_other(alloc, disk, watch, side)?;
+    close_own(alloc, disk, watch, side)?;
     Ok(())
 }

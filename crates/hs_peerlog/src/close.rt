@@ -108,7 +108,7 @@ fn put<D: Disk>(disk: &mut D, watch: &mut Watch, side: Side) -> Result<(), PortF
 }
 
 /// Puts a side on the medium.
-pub(crate) fn settle<D: Disk>(disk: &mut D, watch: &mut Watch, side: Side) -> Result<(), PortFault>
+fn settle<D: Disk>(disk: &mut D, watch: &mut Watch, side: Side) -> Result<(), PortFault>
     ensures settled { D.tells → OnOk result (
         (D.stands disk.new).loose side ≡ settled ((D.stands disk.old).seen side)) }
     ensures seen { D.tells → (D.stands disk.new).seen side ≡ (D.stands disk.old).seen side }

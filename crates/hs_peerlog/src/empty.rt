@@ -60,6 +60,8 @@ pub(crate) fn close_own<D: Disk>(
 ) -> Result<(), LogFault>
     ensures closed { D.tells → is_blank ((D.stands disk.old).seen side) ≡ false
         → OnOk result (IsBlankEverywhere ((D.stands disk.new).loose side)) }
+    ensures gone { D.tells → IsBlankBeside (other_side side) (D.stands disk.old)
+        → OnOk result (IsBlankEverywhere ((D.stands disk.new).loose side)) }
     ensures refused { IfErr result IsOutside }
     ensures other { D.tells →
         Untouched (other_side side) (D.stands disk.old) (D.stands disk.new) }

@@ -66,7 +66,11 @@ pub(crate) fn open_current<D: Disk>(
 }
 
 /// The current side of a disk. It puts both on the medium.
-fn current_side<D: Disk>(alloc: Global, disk: &mut D, watch: &mut Watch) -> Result<Side, LogFault>
+pub(crate) fn current_side<D: Disk>(
+    alloc: Global,
+    disk: &mut D,
+    watch: &mut Watch,
+) -> Result<Side, LogFault>
     ensures value { D.tells → IfOk result (λ side. side ≡ current (D.stands disk.old).seen) }
     ensures refused { IfErr result IsOutside }
 

@@ -6,6 +6,7 @@ pub mod EvenLemmas
 mod Examples
 pub mod FirstLemmas
 pub mod GreatestLemmas
+pub mod HeadLemmas
 pub mod KeepLemmas
 pub mod LeaveLemmas
 pub mod LevelLemmas

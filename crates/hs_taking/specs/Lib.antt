@@ -1,6 +1,7 @@
 pub mod Copies
 pub mod Disks
 pub mod Evens
+pub mod Headed
 pub mod Loaded
 pub mod Opening
 pub mod Pairs

@@ -74,6 +74,10 @@ abbrev pub lost_at : Source → Option ℕ
 lost_at (source.Kept log) = None
 lost_at (source.Lost moment) = Some moment
 
+abbrev pub log_in : Source → Option Keeping
+log_in (source.Kept log) = Some log
+log_in (source.Lost moment) = None
+
 -- a log is kept, of which this holds, or none is, for this reason
 abbrev pub IsKeptOr : (Keeping → Type 0) → Type 0 → Slot → Type 0
 IsKeptOr P out Aside = out

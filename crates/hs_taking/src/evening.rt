@@ -5,13 +5,17 @@ ghost use Rattle.hs_entry.specs.declared.entry.Entry.{Entry};
 ghost use Rattle.hs_entry.specs.Reading.{IsReadable};
 ghost use Rattle.hs_fold.specs.Shards.Setting.{Numbered};
 ghost use Rattle.hs_peerlog.specs.Caused.{IsCalm, IsCaused, IsOutside};
+ghost use Rattle.hs_peerlog.specs.Heads.{KeepsHeader};
 ghost use Rattle.hs_peerlog.specs.Images.{IsAny, IsOne, LeavesEach};
 ghost use Rattle.hs_peerlog.specs.Lists.{HasLog, IsKept, IsReady, numbered_entry, with_waiting};
 ghost use Rattle.hs_peerlog.specs.Opening.{refusal_in};
 ghost use Rattle.hs_peerlog.specs.Views.{IsAsViewed};
 ghost use Rattle.hs_ports.specs.declared.disk.Side.{Side};
+ghost use Rattle.hs_side.specs.declared.header.Header.{Header};
+ghost use Rattle.hs_side.specs.Headers.{own_header};
 ghost use Rattle.hs_taking.specs.Copies.{fronts};
 ghost use Rattle.hs_taking.specs.Disks.{seen_as, seen_at};
+ghost use Rattle.hs_taking.specs.Headed.{IsUnder, KeepsItsHeader};
 ghost use Rattle.hs_taking.specs.Pairs.{HasEmptied, HasFilled, HasMadeEqual, IsPairFault, IsStill};
 ghost use Rattle.hs_taking.specs.Past.{PastStays};
 
@@ -60,6 +64,12 @@ pub(crate) fn even_at<D: Disk>(
         place)
         (seen_at (map (λ disk. seen_as (D.size disk) (D.stands disk) (D.faults disk)) disks.new)
         place) taken.now result }
+    ensures own { D.tells → IfOk result (IsUnder (own_header shape peer)) }
+    ensures headed { KeepsItsHeader D.tells (own_header shape peer) watch.old watch.new
+        (seen_at (map (λ disk. seen_as (D.size disk) (D.stands disk) (D.faults disk)) disks.old)
+        place)
+        (seen_at (map (λ disk. seen_as (D.size disk) (D.stands disk) (D.faults disk)) disks.new)
+        place) }
     ensures rest { (other : ℕ) → other ≢ from → other ≢ place
         → seen_at (map (λ disk. seen_as (D.size disk) (D.stands disk) (D.faults disk)) disks.new)
         other
@@ -108,11 +118,15 @@ fn even_out<D: Disk>(
     requires viewed { IsAsViewed D.tells view (D.size disk.old view.log.side)
         (D.stands disk.old) }
     requires accepted { D.tells → refusal_in shape peer (D.stands disk.old).seen ≡ None }
-    ensures { HasMadeEqual D.tells watch.old watch.new
+    ensures made { HasMadeEqual D.tells watch.old watch.new
         (seen_as (D.size source.old) (D.stands source.old) (D.faults source.old))
         (seen_as (D.size source.new) (D.stands source.new) (D.faults source.new))
         (seen_as (D.size disk.old) (D.stands disk.old) (D.faults disk.old))
         (seen_as (D.size disk.new) (D.stands disk.new) (D.faults disk.new)) taken.now result }
+    ensures own { D.tells → IfOk result (IsUnder (own_header shape peer)) }
+    ensures headed { KeepsItsHeader D.tells (own_header shape peer) watch.old watch.new
+        (seen_as (D.size disk.old) (D.stands disk.old) (D.faults disk.old))
+        (seen_as (D.size disk.new) (D.stands disk.new) (D.faults disk.new)) }
 {
     let mut copy = match empty_log(view, disk, watch, shape, peer) {
         Ok(copy) => copy,
@@ -138,6 +152,10 @@ fn empty_log<D: Disk>(
     ensures emptied { HasEmptied D.tells watch.old watch.new
         (seen_as (D.size disk.old) (D.stands disk.old) (D.faults disk.old))
         (seen_as (D.size disk.new) (D.stands disk.new) (D.faults disk.new)) result }
+    ensures own { D.tells → IfOk result (IsUnder (own_header shape peer)) }
+    ensures headed { KeepsItsHeader D.tells (own_header shape peer) watch.old watch.new
+        (seen_as (D.size disk.old) (D.stands disk.old) (D.faults disk.old))
+        (seen_as (D.size disk.new) (D.stands disk.new) (D.faults disk.new)) }
     ensures refused { D.tells → IfErr result IsOutside }
     ensures ticks { watch.old ≤ watch.new }
     ensures calm { IsCalm (D.faults disk.old) (D.faults disk.new) result }
@@ -186,6 +204,11 @@ fn fill_log<D: Disk>(
         → IsKept taken.now ((D.stands source.old).seen taken.now.log.side) list None
         → HasLog copy.old (D.stands disk.old) [] None
         → OnOk result (HasLog copy.new (D.stands disk.new) list None) }
+    ensures head { OnOk result (copy.new.log.head ≡ copy.old.log.head) }
+    ensures headed { D.tells → (D.stands disk.old).last ≤ watch.old → (list : Numbered)
+        → IsKept taken.now ((D.stands source.old).seen taken.now.log.side) list None
+        → HasLog copy.old (D.stands disk.old) [] None → (head : Header × ℕ)
+        → copy.old.log.head ≡ Some head → KeepsHeader watch.old (D.stands disk.new) head.0 }
     ensures calm { OnOk result ((D.faults source.new ≡ D.faults source.old)
         × (D.faults disk.new ≡ D.faults disk.old)) }
     ensures cause { IfErr result (IsPairFault D.tells
@@ -235,6 +258,10 @@ fn fill_entry<D: Disk>(
         → numbered_entry list number ≡ Some entry → HasLog copy.old (D.stands disk.old) own None
         → LeavesEach watch.old watch.new (D.stands disk.old) (D.stands disk.new)
         (IsOne own (with_waiting own entry)) }
+    ensures head { OnOk result (copy.new.log.head ≡ copy.old.log.head) }
+    ensures headed { D.tells → (D.stands disk.old).last ≤ watch.old → (own : Numbered)
+        → HasLog copy.old (D.stands disk.old) own None → (head : Header × ℕ)
+        → copy.old.log.head ≡ Some head → KeepsHeader watch.old (D.stands disk.new) head.0 }
     ensures past { D.tells → (D.stands disk.old).last ≤ watch.old
         → PastStays watch.old watch.new (D.stands disk.old) (D.stands disk.new) }
     ensures counted { D.faults disk.old ≤ D.faults disk.new }
@@ -302,6 +329,10 @@ fn write_entry<D: Disk>(
         → HasLog log.old (D.stands disk.old) own None
         → LeavesEach watch.old watch.new (D.stands disk.old) (D.stands disk.new)
         (IsOne own (with_waiting own entry.now)) }
+    ensures head { OnOk result (log.new.log.head ≡ log.old.log.head) }
+    ensures headed { D.tells → (D.stands disk.old).last ≤ watch.old → (own : Numbered)
+        → HasLog log.old (D.stands disk.old) own None → (head : Header × ℕ)
+        → log.old.log.head ≡ Some head → KeepsHeader watch.old (D.stands disk.new) head.0 }
     ensures past { D.tells → (D.stands disk.old).last ≤ watch.old
         → PastStays watch.old watch.new (D.stands disk.old) (D.stands disk.new) }
     ensures refused { IfErr result IsOutside }

@@ -3,10 +3,13 @@ ghost use Rattle.std.specs.Prelude.{◌≡◌, ◌⊎◌, ◌+◌, ◌*◌, ◌<
 ghost use Rattle.std.proofs.Common.{◌≢◌};
 ghost use Rattle.hs_limits.specs.Shape.{IsShape, peer_of};
 ghost use Rattle.hs_ports.specs.Fault.{HasRisen};
+ghost use Rattle.hs_side.specs.Headers.{own_header};
 ghost use Rattle.hs_taking.specs.declared.fault.TakeFault.TheVariants.{NoMemory};
 ghost use Rattle.hs_taking.specs.declared.slot.Slot.TheVariants as kind;
 ghost use Rattle.hs_taking.specs.Copies.{IsOf};
 ghost use Rattle.hs_taking.specs.Disks.{seen_as, seen_at};
+ghost use Rattle.hs_taking.specs.Evens.{log_of};
+ghost use Rattle.hs_taking.specs.Headed.{KeepTheirHeaders, KeepsItsHeader, OwnTheirLogs, OwnsLog};
 ghost use Rattle.hs_taking.specs.Pairs.{IsStill};
 ghost use Rattle.hs_taking.specs.Shares.{KeepsDisk};
 ghost use Rattle.hs_taking.specs.Slots.{AreMade, HasMoved, IsGood, IsGoodView, IsKeptOr, IsMade, IsMoved, IsSlot, IsSource, IsSourceOf, IsSourceRun, IsSourceStep, is_lost, slot_at};
@@ -58,6 +61,11 @@ pub(crate) fn level_copies<D: Disk>(
         peer) source.old (IsSourceOf source.old
         (seen_at (map (λ disk. seen_as (D.size disk) (D.stands disk) (D.faults disk)) disks.old)
         from)) (slot_at slots.old.items peer) }
+    ensures own { OwnTheirLogs D.tells shape (λ p. log_of (slot_at slots.old.items p))
+        → OnOk result (OwnTheirLogs D.tells shape (λ p. log_of (slot_at slots.new.items p))) }
+    ensures headed { KeepTheirHeaders D.tells shape watch.old watch.new
+        (map (λ disk. seen_as (D.size disk) (D.stands disk) (D.faults disk)) disks.old)
+        (map (λ disk. seen_as (D.size disk) (D.stands disk) (D.faults disk)) disks.new) }
     ensures still { IsStill D.tells
         (seen_at (map (λ disk. seen_as (D.size disk) (D.stands disk) (D.faults disk)) disks.old)
         from)
@@ -126,6 +134,13 @@ fn even_copy<D: Disk>(
         place) source.old (IsSourceOf source.old
         (seen_at (map (λ disk. seen_as (D.size disk) (D.stands disk) (D.faults disk)) disks.old)
         from)) slot.old }
+    ensures own { D.tells → OwnsLog (own_header shape peer) (log_of slot.old)
+        → OnOk result (OwnsLog (own_header shape peer) (log_of slot.new)) }
+    ensures headed { KeepsItsHeader D.tells (own_header shape peer) watch.old watch.new
+        (seen_at (map (λ disk. seen_as (D.size disk) (D.stands disk) (D.faults disk)) disks.old)
+        place)
+        (seen_at (map (λ disk. seen_as (D.size disk) (D.stands disk) (D.faults disk)) disks.new)
+        place) }
     ensures source { OnOk result (IsSourceStep D.tells watch.new
         (seen_at (map (λ disk. seen_as (D.size disk) (D.stands disk) (D.faults disk)) disks.old)
         from)
@@ -184,6 +199,10 @@ fn recover_copy<D: Disk>(
         (seen_as (D.size disk.old) (D.stands disk.old) (D.faults disk.old))
         (seen_as (D.size disk.new) (D.stands disk.new) (D.faults disk.new)))
         (D.tells → HasRisen (D.faults disk.old) (D.faults disk.new))) }
+    ensures own { D.tells → IfOk result (λ slot. OwnsLog (own_header shape peer) (log_of slot)) }
+    ensures headed { KeepsItsHeader D.tells (own_header shape peer) watch.old watch.new
+        (seen_as (D.size disk.old) (D.stands disk.old) (D.faults disk.old))
+        (seen_as (D.size disk.new) (D.stands disk.new) (D.faults disk.new)) }
     ensures keeps { KeepsDisk D.tells watch.old watch.new
         (seen_as (D.size disk.old) (D.stands disk.old) (D.faults disk.old))
         (seen_as (D.size disk.new) (D.stands disk.new) (D.faults disk.new)) }
@@ -239,6 +258,12 @@ fn level_copy<D: Disk>(
         place) (IsSourceOf source.old
         (seen_at (map (λ disk. seen_as (D.size disk) (D.stands disk) (D.faults disk)) disks.old)
         from)) }
+    ensures own { D.tells → IfOk result (λ slot. OwnsLog (own_header shape peer) (log_of slot)) }
+    ensures headed { KeepsItsHeader D.tells (own_header shape peer) watch.old watch.new
+        (seen_at (map (λ disk. seen_as (D.size disk) (D.stands disk) (D.faults disk)) disks.old)
+        place)
+        (seen_at (map (λ disk. seen_as (D.size disk) (D.stands disk) (D.faults disk)) disks.new)
+        place) }
     ensures idle { is_lost source.old ≡ true → disks.new ≡ disks.old }
     ensures none { is_lost source.old ≡ true → IfOk result (λ slot. slot ≡ kind.Aside) }
     ensures source { OnOk result (IsSourceStep D.tells watch.new

@@ -3,8 +3,9 @@ ghost use Rattle.std.specs.Prelude.{◌≡◌, ◌*◌, ◌<◌, ◌≤◌, ℕ,
 ghost use Rattle.hs_limits.specs.Shape.{IsShape};
 ghost use Rattle.hs_shard.specs.Facts.{empty_catalogue};
 ghost use Rattle.hs_taking.specs.declared.fault.TakeFault.TheVariants.{NoMemory};
-ghost use Rattle.hs_taking.specs.Disks.{AreReady, seen_as, seen_at};
+ghost use Rattle.hs_taking.specs.Disks.{AreReady, log_at, seen_as, seen_at};
 ghost use Rattle.hs_taking.specs.Evens.{HaveMoved, TakesAll, chosen_peer, log_of, slot_of};
+ghost use Rattle.hs_taking.specs.Headed.{KeepTheirHeaders, OwnTheirLogs};
 ghost use Rattle.hs_taking.specs.Shares.{KeepsDisk};
 ghost use Rattle.hs_taking.specs.Viewed.{IsViewOf};
 
@@ -70,6 +71,10 @@ pub(crate) fn take_all<A: Addresser, D: Disk>(
         ≡ shape.shards * shape.copies) }
     ensures ready { IfOk result (λ taking. AreReady D.tells taking.logs.items
         (map (λ disk. seen_as (D.size disk) (D.stands disk) (D.faults disk)) disks.new)) }
+    ensures own { IfOk result (λ taking. OwnTheirLogs D.tells shape (log_at taking.logs.items)) }
+    ensures headed { KeepTheirHeaders D.tells shape watch.old watch.new
+        (map (λ disk. seen_as (D.size disk) (D.stands disk) (D.faults disk)) disks.old)
+        (map (λ disk. seen_as (D.size disk) (D.stands disk) (D.faults disk)) disks.new) }
     ensures counted { (peer : ℕ) → peer < length disks.old
         → (seen_at (map (λ disk. seen_as (D.size disk) (D.stands disk) (D.faults disk)) disks.old)
         peer).faults

@@ -5,8 +5,10 @@ ghost use Rattle.hs_peerlog.specs.declared.fault.LogFault.TheVariants as log;
 ghost use Rattle.hs_peerlog.specs.Opening.{refusal_in};
 ghost use Rattle.hs_ports.specs.Fault.{HasRisen};
 ghost use Rattle.hs_side.specs.declared.header.Header.{Header};
+ghost use Rattle.hs_side.specs.Headers.{own_header};
 ghost use Rattle.hs_taking.specs.Copies.{HasEvened};
-ghost use Rattle.hs_taking.specs.Disks.{AreReady, seen_as, seen_at};
+ghost use Rattle.hs_taking.specs.Disks.{AreReady, log_at, seen_as, seen_at};
+ghost use Rattle.hs_taking.specs.Headed.{KeepsItsHeader, OwnTheirLogs};
 ghost use Rattle.hs_taking.specs.Opening.{LeavesShard};
 ghost use Rattle.hs_taking.specs.Shares.{KeepsDisk};
 ghost use Rattle.hs_taking.specs.Spared.{SparesDisks};
@@ -90,6 +92,15 @@ pub fn read_store<A: Addresser, D: Disk>(
         peer).faults
         ≤ (seen_at (map (λ disk. seen_as (D.size disk) (D.stands disk) (D.faults disk)) disks.new)
         peer).faults }
+    // A log that is in use has the header of its peer. Whatever is answered, a stop leaves no other on
+    // a disk at any moment, where it did not before.
+    ensures heads { IfOk result (λ taking. OwnTheirLogs D.tells shape (log_at taking.logs.items)) }
+    ensures headed { (peer : ℕ) → peer < length disks.old
+        → KeepsItsHeader D.tells (own_header shape peer) watch.old watch.new
+        (seen_at (map (λ disk. seen_as (D.size disk) (D.stands disk) (D.faults disk)) disks.old)
+        peer)
+        (seen_at (map (λ disk. seen_as (D.size disk) (D.stands disk) (D.faults disk)) disks.new)
+        peer) }
     // Whatever it answers, what a stop leaves of each shard's disks meanwhile.
     ensures any_moment { (shard : ℕ) → shard < shape.shards → LeavesShard D.tells shape (record {
       before = watch.old;

@@ -5,11 +5,13 @@ ghost use Rattle.hs_memory.specs.Forget.{apply_all};
 ghost use Rattle.hs_shard.specs.Facts.{empty_catalogue};
 ghost use Rattle.hs_taking.specs.declared.fault.TakeFault.TheVariants.{NoMemory};
 ghost use Rattle.hs_taking.specs.declared.slot.Slot.TheVariants as kind;
+ghost use Rattle.hs_side.specs.Headers.{own_header};
 ghost use Rattle.hs_taking.specs.Copies.{IsOf};
 ghost use Rattle.hs_taking.specs.Disks.{seen_as, seen_at};
 ghost use Rattle.hs_taking.specs.Evens.{AreEvened, AreMoved, IsFresh, IsRecovered, TakesShard, TakesView, has_kept, log_of, viewed_of};
+ghost use Rattle.hs_taking.specs.Headed.{KeepTheirHeaders, KeepsItsHeader, OwnTheirLogs, OwnsLog};
 ghost use Rattle.hs_taking.specs.Shares.{KeepsDisk};
-ghost use Rattle.hs_taking.specs.Slots.{IsSlot, slot_at};
+ghost use Rattle.hs_taking.specs.Slots.{IsSlot, log_in, slot_at};
 ghost use Rattle.hs_taking.specs.Viewed.{IsViewOf};
 
 use crate::TakeFault;
@@ -60,6 +62,11 @@ pub(crate) fn take_shard<A: Addresser, D: Disk>(
         (map (λ disk. seen_as (D.size disk) (D.stands disk) (D.faults disk)) disks.old)
         (map (λ disk. seen_as (D.size disk) (D.stands disk) (D.faults disk)) disks.new)
         slots.old.items }
+    ensures own { OwnTheirLogs D.tells shape (λ p. log_of (slot_at slots.old.items p))
+        → OnOk result (OwnTheirLogs D.tells shape (λ p. log_of (slot_at slots.new.items p))) }
+    ensures headed { KeepTheirHeaders D.tells shape watch.old watch.new
+        (map (λ disk. seen_as (D.size disk) (D.stands disk) (D.faults disk)) disks.old)
+        (map (λ disk. seen_as (D.size disk) (D.stands disk) (D.faults disk)) disks.new) }
     ensures idle { viewed_of (slot_at slots.old.items peer) ≡ None → disks.new ≡ disks.old }
     ensures shard { IfOk result (λ share. share.shard ≡ shard) }
     ensures peer { IfOk result (λ share. share.peer ≡ peer) }
@@ -125,6 +132,11 @@ fn take_viewed<A: Addresser, D: Disk>(
         (map (λ disk. seen_as (D.size disk) (D.stands disk) (D.faults disk)) disks.old)
         (map (λ disk. seen_as (D.size disk) (D.stands disk) (D.faults disk)) disks.new)
         slots.old.items }
+    ensures own { OwnTheirLogs D.tells shape (λ p. log_of (slot_at slots.old.items p))
+        → OnOk result (OwnTheirLogs D.tells shape (λ p. log_of (slot_at slots.new.items p))) }
+    ensures headed { KeepTheirHeaders D.tells shape watch.old watch.new
+        (map (λ disk. seen_as (D.size disk) (D.stands disk) (D.faults disk)) disks.old)
+        (map (λ disk. seen_as (D.size disk) (D.stands disk) (D.faults disk)) disks.new) }
     ensures outside { OnOk result ((other : ℕ) → (IsOf shape shard other → ⊥)
         → slot_at slots.new.items other ≡ slot_at slots.old.items other) }
     ensures shard { IfOk result (λ share. share.shard ≡ shard) }
@@ -231,6 +243,11 @@ fn even_shard<D: Disk>(
         (map (λ disk. seen_as (D.size disk) (D.stands disk) (D.faults disk)) disks.old)
         (map (λ disk. seen_as (D.size disk) (D.stands disk) (D.faults disk)) disks.new)
         slots.old.items }
+    ensures own { OwnTheirLogs D.tells shape (λ p. log_of (slot_at slots.old.items p))
+        → OnOk result (OwnTheirLogs D.tells shape (λ p. log_of (slot_at slots.new.items p))) }
+    ensures headed { KeepTheirHeaders D.tells shape watch.old watch.new
+        (map (λ disk. seen_as (D.size disk) (D.stands disk) (D.faults disk)) disks.old)
+        (map (λ disk. seen_as (D.size disk) (D.stands disk) (D.faults disk)) disks.new) }
     ensures outside { OnOk result ((other : ℕ) → (IsOf shape shard other → ⊥)
         → slot_at slots.new.items other ≡ slot_at slots.old.items other) }
     ensures only { IsOkUnless result NoMemory }
@@ -274,6 +291,10 @@ fn recover_taken<D: Disk>(
     ensures recovered { IfOk result (IsRecovered D.tells watch.old watch.new
         (seen_as (D.size disk.old) (D.stands disk.old) (D.faults disk.old))
         (seen_as (D.size disk.new) (D.stands disk.new) (D.faults disk.new)) lost) }
+    ensures own { D.tells → IfOk result (λ source. OwnsLog (own_header shape peer) (log_in source)) }
+    ensures headed { KeepsItsHeader D.tells (own_header shape peer) watch.old watch.new
+        (seen_as (D.size disk.old) (D.stands disk.old) (D.faults disk.old))
+        (seen_as (D.size disk.new) (D.stands disk.new) (D.faults disk.new)) }
     ensures keeps { KeepsDisk D.tells watch.old watch.new
         (seen_as (D.size disk.old) (D.stands disk.old) (D.faults disk.old))
         (seen_as (D.size disk.new) (D.stands disk.new) (D.faults disk.new)) }

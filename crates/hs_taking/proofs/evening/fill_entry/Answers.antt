@@ -3,6 +3,7 @@ use Rattle.hs_entry.specs.declared.entry.Entry.{Entry}
 use Rattle.hs_peerlog.proofs.StayLemmas.{stays}
 use Rattle.hs_peerlog.specs.Images.{IsOne, LeavesEach}
 use Rattle.hs_peerlog.specs.Lists.{HasLog, with_waiting}
+use Rattle.hs_taking.proofs.HeadLemmas.{header_still}
 use Rattle.hs_taking.proofs.evening.fill_entry.Goals as goal
 
 pub returns-in-Err-clause-moments : goal.returns-in-Err-clause-moments
@@ -32,3 +33,7 @@ returns-clause-moments g c = λ told last list own entry kept is has.
   where
     some_is : (x y : Entry) → Some x ≡ Some y → x ≡ y
     some_is x y e = cc e
+
+pub returns-in-Err-clause-headed : goal.returns-in-Err-clause-headed
+returns-in-Err-clause-headed g c = λ told last own has head is.
+    header_still head.0 c.args.watch.now (g.D.Disk.stands c.args.disk.now) last (λ side m high. g.met.D.Disk.since told c.args.disk.now side m high) (has.headed head is)

@@ -7,6 +7,7 @@ use Rattle.hs_taking.proofs.EvenLemmas.{each_then, each_weak, entry_there, front
 use Rattle.hs_taking.proofs.PairLemmas.{still_none, still_then}
 use Rattle.hs_taking.proofs.PastLemmas.{past_still, past_then}
 use Rattle.hs_taking.specs.Disks.{DiskSeen, seen_as}
+use Rattle.hs_taking.proofs.HeadLemmas.{header_still, header_then}
 use Rattle.hs_taking.proofs.evening.fill_log.Goals as goal
 
 pub entries-init : goal.entries-init
@@ -22,6 +23,8 @@ entries-init g c =
       has = λ told last list kept has. has;
       moments = λ told last list kept has. none_filled c.args.watch.now (g.D.Disk.stands c.args.disk.now) list last (λ side m high. g.met.D.Disk.since told c.args.disk.now side m high) has.leaves;
       past = λ told last. past_still c.args.watch.now c.args.watch.now (g.D.Disk.stands c.args.disk.now) (omega arith) last;
+      head = refl;
+      headed = λ told last list kept has head is. header_still head.0 c.args.watch.now (g.D.Disk.stands c.args.disk.now) last (λ side m high. g.met.D.Disk.since told c.args.disk.now side m high) (has.headed head is);
       ticks = omega arith;
     }
 
@@ -55,6 +58,11 @@ entries-preserved g c =
           each_then (inv.moments told last list kept empty)
           (each_weak (λ l one. one_of_fronts list c.entries.index (with_waiting (take c.entries.index list) e.0) l more one) (step.moments told past.last list (take c.entries.index list) e.0 (there told list kept) e.1 so_far));
       past = λ told last. let past = inv.past told last in past_then c.args.watch.now c.entries.watch c.fill_entry.new.watch (g.D.Disk.stands c.args.disk.now) (g.D.Disk.stands c.entries.disk) (g.D.Disk.stands c.fill_entry.new.disk) past (step.past told past.last);
+      head = done.head ∙ inv.head;
+      headed = λ told last list kept empty head is.
+          let past = inv.past told last in
+          header_then head.0 c.args.watch.now c.entries.watch c.fill_entry.new.watch (g.D.Disk.stands c.entries.disk) (g.D.Disk.stands c.fill_entry.new.disk) (step.past told past.last) (inv.headed told last list kept empty head is)
+          (step.headed told past.last (take c.entries.index list) (inv.has told last list kept empty) head (inv.head ∙ is));
       ticks = omega (arith, inv.ticks, step.ticks);
     }
 
@@ -79,3 +87,12 @@ returns-in-Err-clause-filled g c =
       counted = let a = step.counted in let b = inv.disk_calm in omega (arith, a, b);
       ticks = omega (arith, inv.ticks, step.ticks);
     }
+
+pub returns-in-Err-clause-headed : goal.returns-in-Err-clause-headed
+returns-in-Err-clause-headed g c =
+    let inv = c.entries.invariant in
+    let step = c.fill_entry.ensures in
+    λ told last list kept empty head is.
+    let past = inv.past told last in
+    header_then head.0 c.args.watch.now c.entries.watch c.fill_entry.new.watch (g.D.Disk.stands c.entries.disk) (g.D.Disk.stands c.fill_entry.new.disk) (step.past told past.last) (inv.headed told last list kept empty head is)
+    (step.headed told past.last (take c.entries.index list) (inv.has told last list kept empty) head (inv.head ∙ is))

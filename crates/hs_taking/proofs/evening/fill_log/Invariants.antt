@@ -1,7 +1,9 @@
-use Rattle.std.proofs.Common.{◌≡◌, ◌≤◌, [], None, take}
+use Rattle.std.proofs.Common.{◌≡◌, ◌≤◌, [], ℕ, None, Some, take}
 use Rattle.hs_fold.specs.Shards.Setting.{Numbered}
+use Rattle.hs_peerlog.specs.Heads.{KeepsHeader}
 use Rattle.hs_peerlog.specs.Images.{IsAny, LeavesEach}
 use Rattle.hs_peerlog.specs.Lists.{HasLog, IsKept, IsReady}
+use Rattle.hs_side.specs.declared.header.Header.{Header}
 use Rattle.hs_taking.specs.Copies.{fronts}
 use Rattle.hs_taking.specs.Disks.{seen_as}
 use Rattle.hs_taking.specs.Pairs.{IsStill}
@@ -22,5 +24,8 @@ invariant-entries g l = record {
   moments : g.D.Disk.tells → (g.D.Disk.stands l.fn.disk).last ≤ l.fn.watch → (list : Numbered) → IsKept l.taken ((g.D.Disk.stands l.fn.source).seen l.taken.log.side) list None → HasLog l.fn.copy (g.D.Disk.stands l.fn.disk) [] None
       → LeavesEach l.fn.watch l.watch (g.D.Disk.stands l.fn.disk) (g.D.Disk.stands l.disk) (IsAny (fronts list));
   past : g.D.Disk.tells → (g.D.Disk.stands l.fn.disk).last ≤ l.fn.watch → PastStays l.fn.watch l.watch (g.D.Disk.stands l.fn.disk) (g.D.Disk.stands l.disk);
+  head : l.copy.log.head ≡ l.fn.copy.log.head;
+  headed : g.D.Disk.tells → (g.D.Disk.stands l.fn.disk).last ≤ l.fn.watch → (list : Numbered) → IsKept l.taken ((g.D.Disk.stands l.fn.source).seen l.taken.log.side) list None → HasLog l.fn.copy (g.D.Disk.stands l.fn.disk) [] None
+      → (head : Header × ℕ) → l.fn.copy.log.head ≡ Some head → KeepsHeader l.fn.watch (g.D.Disk.stands l.disk) head.0;
   ticks : l.fn.watch ≤ l.watch;
 }

@@ -1,11 +1,16 @@
-use Rattle.std.proofs.Common.{◌≡◌, ◌≢◌, ◌∙◌, map, sym, subst}
+use Rattle.std.proofs.Common.{◌≡◌, ◌≢◌, ◌∙◌, map, sym, subst, refl}
 use Rattle.hs_peerlog.specs.Views.{Viewing}
-use Rattle.hs_taking.proofs.DiskLemmas.{seen_is, seen_there}
+use Rattle.hs_taking.proofs.DiskLemmas.{seen_is, seen_there, one_called, seen_since}
 use Rattle.hs_taking.proofs.LevelLemmas.{equal_made, equal_moved, slot_apart, step_none, still_same, view_apart}
 use Rattle.hs_taking.specs.declared.slot.Slot.TheVariants.{Aside, Viewed, Equal}
 use Rattle.hs_taking.specs.Disks.{DiskSeen, seen_as, seen_at}
 use Rattle.hs_taking.specs.Slots.{IsSourceOf}
 use Rattle.hs_taking.specs.Viewed.{IsViewOf}
+use Rattle.hs_taking.proofs.HeadLemmas.{its_none, owns_none}
+use Rattle.hs_side.specs.Headers.{own_header}
+use Rattle.hs_taking.specs.Evens.{log_of}
+use Rattle.hs_taking.specs.Headed.{KeepsItsHeader, OwnsLog}
+use Rattle.hs_taking.specs.declared.slot.Slot.{Slot}
 use Rattle.hs_taking.proofs.leveling.even_copy.Goals as goal
 
 not_equal : {view : Viewing} → Equal view ≡ Aside → ⊥
@@ -83,3 +88,31 @@ pub returns-in-Err-clause-rest : goal.returns-in-Err-clause-rest
 returns-in-Err-clause-rest g c = λ other a b.
     let f : g.row.D.Denot → DiskSeen = λ disk. seen_as (g.D.Disk.size disk) (g.D.Disk.stands disk) (g.D.Disk.faults disk) in
     seen_there f c.args.disks.now c.args.place other c.recover_copy.new.disk b
+
+pub returns-in-Aside-clause-headed : goal.returns-in-Aside-clause-headed
+returns-in-Aside-clause-headed g c =
+    let f : g.row.D.Denot → DiskSeen = λ disk. seen_as (g.D.Disk.size disk) (g.D.Disk.stands disk) (g.D.Disk.faults disk) in
+    its_none g.D.Disk.tells (own_header c.args.shape c.args.peer) c.args.watch.now (seen_at (map f c.args.disks.now) c.args.place) (λ told. seen_since f (λ disk side m high. g.met.D.Disk.since told disk side m high) c.args.disks.now c.args.place)
+
+pub returns-in-Aside-clause-own : goal.returns-in-Aside-clause-own
+returns-in-Aside-clause-own g c = λ told owns. subst (λ (s : Slot). OwnsLog (own_header c.args.shape c.args.peer) (log_of s)) (sym c.replace.ensures.after) (owns_none (own_header c.args.shape c.args.peer))
+
+pub returns-in-Kept-clause-headed : goal.returns-in-Kept-clause-headed
+returns-in-Kept-clause-headed g c =
+    let f : g.row.D.Denot → DiskSeen = λ disk. seen_as (g.D.Disk.size disk) (g.D.Disk.stands disk) (g.D.Disk.faults disk) in
+    its_none g.D.Disk.tells (own_header c.args.shape c.args.peer) c.args.watch.now (seen_at (map f c.args.disks.now) c.args.place) (λ told. seen_since f (λ disk side m high. g.met.D.Disk.since told disk side m high) c.args.disks.now c.args.place)
+
+pub returns-in-Kept-clause-own : goal.returns-in-Kept-clause-own
+returns-in-Kept-clause-own g c = λ told owns. subst (λ (s : Slot). OwnsLog (own_header c.args.shape c.args.peer) (log_of s)) (sym c.replace.ensures.value ∙ c.in-Kept.is) owns
+
+pub returns-in-Ok-clause-headed : goal.returns-in-Ok-clause-headed
+returns-in-Ok-clause-headed g c =
+    let f : g.row.D.Denot → DiskSeen = λ disk. seen_as (g.D.Disk.size disk) (g.D.Disk.stands disk) (g.D.Disk.faults disk) in
+    one_called f c.args.disks.now c.args.place c.args.place c.recover_copy.new.disk c.index-disks-place.result refl c.requires.place
+    (λ a b. KeepsItsHeader g.D.Disk.tells (own_header c.args.shape c.args.peer) c.args.watch.now c.recover_copy.new.watch a b) c.recover_copy.ensures.headed
+
+pub returns-in-Err-clause-headed : goal.returns-in-Err-clause-headed
+returns-in-Err-clause-headed g c =
+    let f : g.row.D.Denot → DiskSeen = λ disk. seen_as (g.D.Disk.size disk) (g.D.Disk.stands disk) (g.D.Disk.faults disk) in
+    one_called f c.args.disks.now c.args.place c.args.place c.recover_copy.new.disk c.index-disks-place.result refl c.requires.place
+    (λ a b. KeepsItsHeader g.D.Disk.tells (own_header c.args.shape c.args.peer) c.args.watch.now c.recover_copy.new.watch a b) c.recover_copy.ensures.headed

@@ -18,8 +18,10 @@ use Rattle.hs_taking.specs.Copies.{IsOf}
 use Rattle.hs_taking.specs.declared.shares.Share.{Share}
 use Rattle.hs_taking.specs.declared.slot.Slot.{Slot}
 use Rattle.hs_taking.specs.Disks.{DiskSeen, seen_as, seen_at}
-use Rattle.hs_taking.specs.Evens.{AreMoved, IsFresh, chosen_peer, slot_of, viewed_of}
+use Rattle.hs_taking.specs.Evens.{AreMoved, IsFresh, chosen_peer, slot_of, viewed_of, log_of}
 use Rattle.hs_taking.specs.Slots.{IsSlot, slot_at}
+use Rattle.hs_taking.proofs.HeadLemmas.{owns_logs, owns_views, their_none, their_then}
+use Rattle.hs_taking.specs.Headed.{OwnTheirLogs}
 use Rattle.hs_taking.proofs.shares.take_all.Goals as goal
 
 pub returns-in_err-ranks-clause-keeps : goal.returns-in_err-ranks-clause-keeps
@@ -52,6 +54,8 @@ loop-shard-init g c =
       shares = ap (λ (xs : List Share). length xs) c.new-shares.ensures.items;
       slots = ap (λ (xs : List Slot). length xs) slots ∙ length-map c.args.views.items slot_of ∙ c.requires.views;
       count = refl;
+      own = subst (λ ss. OwnTheirLogs g.D.Disk.tells c.args.shape (λ p. log_of (slot_at ss p))) (sym slots) (owns_views g.D.Disk.tells c.args.shape c.args.views.items);
+      headed = their_none g.D.Disk.tells c.args.shape c.args.watch.now old since;
       ticks = omega arith;
     }
 
@@ -234,6 +238,8 @@ loop-shard-preserved g c =
       shares = grind (arith, common_steps, items, inv.shares);
       slots = step.slots ∙ inv.slots;
       count = step.count ∙ inv.count;
+      own = c.in-Ok.ensures.own inv.own;
+      headed = their_then g.D.Disk.tells c.args.shape c.args.watch.now c.loop-shard.watch c.take_shard-share.new.watch old cur next inv.headed step.headed;
       ticks = let a = inv.ticks in let b = step.ticks in omega (arith, a, b);
     }
 
@@ -354,3 +360,31 @@ returns-clause-moved g c =
     let cur : List DiskSeen = map f c.loop-shard.disks in
     let inv = c.loop-shard.invariant in
     some_moved g.D.Disk.tells set c.args.watch.now c.loop-shard.watch old cur views c.loop-shard.slots.items c.loop-shard.shares.items inv.ticks inv.taken since stand homes
+
+pub returns-in_err-ranks-clause-headed : goal.returns-in_err-ranks-clause-headed
+returns-in_err-ranks-clause-headed g c =
+    let f : g.row.D.Denot → DiskSeen = λ disk. seen_as (g.D.Disk.size disk) (g.D.Disk.stands disk) (g.D.Disk.faults disk) in
+    let old : List DiskSeen = map f c.args.disks.now in
+    their_none g.D.Disk.tells c.args.shape c.args.watch.now old (λ peer told. seen_since f (λ disk side m high. g.met.D.Disk.since told disk side m high) c.args.disks.now peer)
+
+pub returns-in_err-slots-clause-headed : goal.returns-in_err-slots-clause-headed
+returns-in_err-slots-clause-headed g c =
+    let f : g.row.D.Denot → DiskSeen = λ disk. seen_as (g.D.Disk.size disk) (g.D.Disk.stands disk) (g.D.Disk.faults disk) in
+    let old : List DiskSeen = map f c.args.disks.now in
+    their_none g.D.Disk.tells c.args.shape c.args.watch.now old (λ peer told. seen_since f (λ disk side m high. g.met.D.Disk.since told disk side m high) c.args.disks.now peer)
+
+pub returns-in-Err-clause-headed : goal.returns-in-Err-clause-headed
+returns-in-Err-clause-headed g c =
+    let f : g.row.D.Denot → DiskSeen = λ disk. seen_as (g.D.Disk.size disk) (g.D.Disk.stands disk) (g.D.Disk.faults disk) in
+    let old : List DiskSeen = map f c.args.disks.now in
+    their_then g.D.Disk.tells c.args.shape c.args.watch.now c.loop-shard.watch c.take_shard-share.new.watch old (map f c.loop-shard.disks) (map f c.take_shard-share.new.disks) c.loop-shard.invariant.headed c.take_shard-share.ensures.headed
+
+pub returns-then-is_err-clause-headed : goal.returns-then-is_err-clause-headed
+returns-then-is_err-clause-headed g c =
+    let f : g.row.D.Denot → DiskSeen = λ disk. seen_as (g.D.Disk.size disk) (g.D.Disk.stands disk) (g.D.Disk.faults disk) in
+    let old : List DiskSeen = map f c.args.disks.now in
+    their_then g.D.Disk.tells c.args.shape c.args.watch.now c.loop-shard.watch c.take_shard-share.new.watch old (map f c.loop-shard.disks) (map f c.take_shard-share.new.disks) c.loop-shard.invariant.headed c.take_shard-share.ensures.headed
+
+pub returns-clause-own : goal.returns-clause-own
+returns-clause-own g c =
+    owns_logs g.D.Disk.tells c.args.shape c.loop-shard.slots.items c.in_ok-logs.logs.items c.in_ok-logs.ensures c.loop-shard.invariant.own

@@ -2,6 +2,9 @@ use Rattle.std.proofs.Common.{◌≡◌, ◌*◌, ◌≤◌, length, map}
 use Rattle.std.specs.Option.{option_map}
 use Rattle.hs_taking.proofs.RunLemmas.{TakesSome}
 use Rattle.hs_taking.specs.Disks.{seen_as}
+use Rattle.hs_taking.specs.Evens.{log_of}
+use Rattle.hs_taking.specs.Headed.{KeepTheirHeaders, OwnTheirLogs}
+use Rattle.hs_taking.specs.Slots.{slot_at}
 use Rattle.hs_taking.proofs.shares.take_all.Given as goal
 
 -- the first shards were taken, and the disks of the others were not called
@@ -14,5 +17,9 @@ invariant-loop-shard g l = record {
   shares : length l.shares.items ≡ l.shard;
   slots : length l.slots.items ≡ l.fn.shape.shards * l.fn.shape.copies;
   count : length l.disks ≡ length l.fn.disks;
+  own : OwnTheirLogs g.D.Disk.tells l.fn.shape (λ p. log_of (slot_at l.slots.items p));
+  headed : KeepTheirHeaders g.D.Disk.tells l.fn.shape l.fn.watch l.watch
+      (map (λ disk. seen_as (g.D.Disk.size disk) (g.D.Disk.stands disk) (g.D.Disk.faults disk)) l.fn.disks)
+      (map (λ disk. seen_as (g.D.Disk.size disk) (g.D.Disk.stands disk) (g.D.Disk.faults disk)) l.disks);
   ticks : l.fn.watch ≤ l.watch;
 }

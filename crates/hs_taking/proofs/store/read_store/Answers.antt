@@ -12,6 +12,8 @@ use Rattle.hs_taking.proofs.StoreLemmas.{no_other, no_wrong, opened_ok, other_ro
 use Rattle.hs_taking.proofs.ViewLemmas.{view_of}
 use Rattle.hs_taking.specs.Disks.{DiskSeen, seen_as, seen_at}
 use Rattle.hs_taking.specs.Shares.{Span}
+use Rattle.hs_taking.proofs.HeadLemmas.{its_read, its_then}
+use Rattle.hs_side.specs.Headers.{own_header}
 use Rattle.hs_taking.proofs.store.read_store.Goals as goal
 
 pub take_all-requires-clause-viewed : goal.take_all-requires-clause-viewed
@@ -123,3 +125,13 @@ returns-clause-any_moment g c =
     (λ peer less. view_of g.D.Disk.tells c.args.shape peer (seen_at old peer) (seen_at via peer) (slice_index_or views peer None) (c.view_all.ensures.read peer (within peer less)).seen (c.in-Ok.ensures.viewed peer (within peer less)).some) since
     shard (λ peer of. let t = of.to in omega (arith, w, t)) (chosen_home c.args.shape views shard (let l = c.requires.shape.some_copy in omega (arith, l)) (omega (arith, w, many))) (omega (arith, w, many)) (λ peer less. c.in-Ok.ensures.viewed peer (within peer less))
     (λ peer less. c.take_all.ensures.counted peer (omega (arith, less, c.requires.count, same))) (c.take_all.ensures.moved shard low)
+
+pub returns-in-Err-clause-headed : goal.returns-in-Err-clause-headed
+returns-in-Err-clause-headed g c = λ peer low. its_read g.D.Disk.tells (own_header c.args.shape peer) c.args.watch.now c.view_all.new.watch _ _ (c.view_all.ensures.read peer low)
+
+pub returns-clause-headed : goal.returns-clause-headed
+returns-clause-headed g c = λ peer low.
+    let f : g.row.D.Denot → DiskSeen = λ disk. seen_as (g.D.Disk.size disk) (g.D.Disk.stands disk) (g.D.Disk.faults disk) in
+    its_then g.D.Disk.tells (own_header c.args.shape peer) c.args.watch.now c.view_all.new.watch c.take_all.new.watch (seen_at (map f c.args.disks.now) peer) (seen_at (map f c.view_all.new.disks) peer) (seen_at (map f c.take_all.new.disks) peer)
+    (its_read g.D.Disk.tells (own_header c.args.shape peer) c.args.watch.now c.view_all.new.watch (seen_at (map f c.args.disks.now) peer) (seen_at (map f c.view_all.new.disks) peer) (c.view_all.ensures.read peer low))
+    (c.take_all.ensures.headed.each peer)

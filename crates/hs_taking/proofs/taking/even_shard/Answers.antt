@@ -4,17 +4,20 @@ use Rattle.std.specs.Prelude.{slice_set}
 use Rattle.hs_limits.specs.Shape.{peer_of}
 use Rattle.hs_peerlog.proofs.ImageLemmas.{Since}
 use Rattle.hs_taking.proofs.DiskLemmas.{one_called, seen_is, seen_since, seen_there}
-use Rattle.hs_taking.proofs.LevelLemmas.{view_still}
+use Rattle.hs_taking.proofs.LevelLemmas.{view_still, still_same}
 use Rattle.hs_taking.proofs.ShardLemmas.{all_evened, keeps_still, made_none_at, moved_all, moved_read, recovered_source, slot_with, sorted_none, sorted_slot, still_keeps}
 use Rattle.hs_taking.specs.Copies.{IsOf}
 use Rattle.hs_taking.specs.Disks.{DiskSeen, seen_as, seen_at}
 use Rattle.hs_taking.specs.declared.slot.Slot.TheVariants.{Aside, Kept}
 use Rattle.hs_taking.specs.declared.slot.Source.{Source}
-use Rattle.hs_taking.specs.Evens.{AreEvened, IsRecovered}
+use Rattle.hs_taking.specs.Evens.{AreEvened, IsRecovered, log_of}
 use Rattle.hs_taking.specs.Pairs.{IsStill}
 use Rattle.hs_taking.specs.Shares.{KeepsDisk}
-use Rattle.hs_taking.specs.Slots.{IsSlot, lost_at, slot_at}
+use Rattle.hs_taking.specs.Slots.{IsSlot, lost_at, slot_at, log_in}
 use Rattle.hs_taking.specs.Viewed.{IsViewOf}
+use Rattle.hs_taking.proofs.HeadLemmas.{owns_set, owns_source, their_called, their_none, their_still, their_then, owns_compared}
+use Rattle.hs_side.specs.Headers.{own_header}
+use Rattle.hs_taking.specs.Headed.{KeepsItsHeader, KeepTheirHeaders, OwnsLog, OwnTheirLogs}
 use Rattle.hs_taking.proofs.taking.even_shard.Goals as goal
 
 pub returns-in-Err-clause-moved : goal.returns-in-Err-clause-moved
@@ -277,3 +280,129 @@ returns-in-Lost-clause-outside g c =
     let slots2 = c.level_copies.new.slots.items in
     let slots3 = slots2 in
     λ other not. (c.in-Ok-level_copies.ensures.made.outside other not).0 ∙ (c.in-Ok.ensures.sorted.outside other not).0
+
+pub returns-in-Err-clause-headed : goal.returns-in-Err-clause-headed
+returns-in-Err-clause-headed g c =
+    let f : g.row.D.Denot → DiskSeen = λ disk. seen_as (g.D.Disk.size disk) (g.D.Disk.stands disk) (g.D.Disk.faults disk) in
+    let d0 : List DiskSeen = map f c.args.disks.now in
+    let d1 : List DiskSeen = map f c.compare_copies.new.disks in
+    let since : (peer : ℕ) → g.D.Disk.tells → Since (seen_at d0 peer).stands = λ peer told. seen_since f (λ disk side m high. g.met.D.Disk.since told disk side m high) c.args.disks.now peer in
+    let one = c.compare_copies.ensures in
+    let read : KeepTheirHeaders g.D.Disk.tells c.args.shape c.args.watch.now c.args.watch.now d0 d1 =
+    their_still g.D.Disk.tells c.args.shape c.args.watch.now c.args.watch.now c.args.watch.now d0 d0 d1 (omega arith) (their_none g.D.Disk.tells c.args.shape c.args.watch.now d0 since) one.still in
+    read
+
+pub returns-in-Err-recover_taken-clause-headed : goal.returns-in-Err-recover_taken-clause-headed
+returns-in-Err-recover_taken-clause-headed g c =
+    let f : g.row.D.Denot → DiskSeen = λ disk. seen_as (g.D.Disk.size disk) (g.D.Disk.stands disk) (g.D.Disk.faults disk) in
+    let d0 : List DiskSeen = map f c.args.disks.now in
+    let d1 : List DiskSeen = map f c.compare_copies.new.disks in
+    let since : (peer : ℕ) → g.D.Disk.tells → Since (seen_at d0 peer).stands = λ peer told. seen_since f (λ disk side m high. g.met.D.Disk.since told disk side m high) c.args.disks.now peer in
+    let one = c.compare_copies.ensures in
+    let read : KeepTheirHeaders g.D.Disk.tells c.args.shape c.args.watch.now c.args.watch.now d0 d1 =
+    their_still g.D.Disk.tells c.args.shape c.args.watch.now c.args.watch.now c.args.watch.now d0 d0 d1 (omega arith) (their_none g.D.Disk.tells c.args.shape c.args.watch.now d0 since) one.still in
+    let i : ℕ = c.from-place.result in
+    let at : i ≡ c.args.peer = c.from-place.ensures in
+    let low : i < length c.compare_copies.new.disks = omega (arith, at, c.requires.within, one.count, c.requires.count) in
+    let x = c.recover_taken.new.disk in
+    let d2 : List DiskSeen = map f (slice_set c.compare_copies.new.disks i x) in
+    let there : (peer : ℕ) → peer ≢ c.args.peer → seen_at d2 peer ≡ seen_at d1 peer = λ peer differs. seen_there f c.compare_copies.new.disks i peer x (λ same. differs (same ∙ at)) in
+    let found : KeepTheirHeaders g.D.Disk.tells c.args.shape c.args.watch.now c.recover_taken.new.watch d0 d2 =
+    their_called g.D.Disk.tells c.args.shape c.args.watch.now c.args.watch.now c.recover_taken.new.watch d0 d1 d2 c.args.peer c.recover_taken.ensures.ticks read
+    (one_called f c.compare_copies.new.disks i c.args.peer x c.index-disks-place.result at low (λ a b. KeepsItsHeader g.D.Disk.tells (own_header c.args.shape c.args.peer) c.args.watch.now c.recover_taken.new.watch a b) c.recover_taken.ensures.headed)
+    (λ peer differs. still_same g.D.Disk.tells (seen_at d1 peer) (seen_at d2 peer) (there peer differs)) in
+    found
+
+pub returns-in-Err-level_copies-clause-headed : goal.returns-in-Err-level_copies-clause-headed
+returns-in-Err-level_copies-clause-headed g c =
+    let f : g.row.D.Denot → DiskSeen = λ disk. seen_as (g.D.Disk.size disk) (g.D.Disk.stands disk) (g.D.Disk.faults disk) in
+    let d0 : List DiskSeen = map f c.args.disks.now in
+    let d1 : List DiskSeen = map f c.compare_copies.new.disks in
+    let since : (peer : ℕ) → g.D.Disk.tells → Since (seen_at d0 peer).stands = λ peer told. seen_since f (λ disk side m high. g.met.D.Disk.since told disk side m high) c.args.disks.now peer in
+    let one = c.compare_copies.ensures in
+    let read : KeepTheirHeaders g.D.Disk.tells c.args.shape c.args.watch.now c.args.watch.now d0 d1 =
+    their_still g.D.Disk.tells c.args.shape c.args.watch.now c.args.watch.now c.args.watch.now d0 d0 d1 (omega arith) (their_none g.D.Disk.tells c.args.shape c.args.watch.now d0 since) one.still in
+    let i : ℕ = c.from-place.result in
+    let at : i ≡ c.args.peer = c.from-place.ensures in
+    let low : i < length c.compare_copies.new.disks = omega (arith, at, c.requires.within, one.count, c.requires.count) in
+    let x = c.recover_taken.new.disk in
+    let d2 : List DiskSeen = map f (slice_set c.compare_copies.new.disks i x) in
+    let there : (peer : ℕ) → peer ≢ c.args.peer → seen_at d2 peer ≡ seen_at d1 peer = λ peer differs. seen_there f c.compare_copies.new.disks i peer x (λ same. differs (same ∙ at)) in
+    let found : KeepTheirHeaders g.D.Disk.tells c.args.shape c.args.watch.now c.recover_taken.new.watch d0 d2 =
+    their_called g.D.Disk.tells c.args.shape c.args.watch.now c.args.watch.now c.recover_taken.new.watch d0 d1 d2 c.args.peer c.recover_taken.ensures.ticks read
+    (one_called f c.compare_copies.new.disks i c.args.peer x c.index-disks-place.result at low (λ a b. KeepsItsHeader g.D.Disk.tells (own_header c.args.shape c.args.peer) c.args.watch.now c.recover_taken.new.watch a b) c.recover_taken.ensures.headed)
+    (λ peer differs. still_same g.D.Disk.tells (seen_at d1 peer) (seen_at d2 peer) (there peer differs)) in
+    let d3 : List DiskSeen = map f c.level_copies.new.disks in
+    their_then g.D.Disk.tells c.args.shape c.args.watch.now c.recover_taken.new.watch c.level_copies.new.watch d0 d2 d3 found c.level_copies.ensures.headed
+
+pub returns-in-Kept-clause-headed : goal.returns-in-Kept-clause-headed
+returns-in-Kept-clause-headed g c =
+    let f : g.row.D.Denot → DiskSeen = λ disk. seen_as (g.D.Disk.size disk) (g.D.Disk.stands disk) (g.D.Disk.faults disk) in
+    let d0 : List DiskSeen = map f c.args.disks.now in
+    let d1 : List DiskSeen = map f c.compare_copies.new.disks in
+    let since : (peer : ℕ) → g.D.Disk.tells → Since (seen_at d0 peer).stands = λ peer told. seen_since f (λ disk side m high. g.met.D.Disk.since told disk side m high) c.args.disks.now peer in
+    let one = c.compare_copies.ensures in
+    let read : KeepTheirHeaders g.D.Disk.tells c.args.shape c.args.watch.now c.args.watch.now d0 d1 =
+    their_still g.D.Disk.tells c.args.shape c.args.watch.now c.args.watch.now c.args.watch.now d0 d0 d1 (omega arith) (their_none g.D.Disk.tells c.args.shape c.args.watch.now d0 since) one.still in
+    let i : ℕ = c.from-place.result in
+    let at : i ≡ c.args.peer = c.from-place.ensures in
+    let low : i < length c.compare_copies.new.disks = omega (arith, at, c.requires.within, one.count, c.requires.count) in
+    let x = c.recover_taken.new.disk in
+    let d2 : List DiskSeen = map f (slice_set c.compare_copies.new.disks i x) in
+    let there : (peer : ℕ) → peer ≢ c.args.peer → seen_at d2 peer ≡ seen_at d1 peer = λ peer differs. seen_there f c.compare_copies.new.disks i peer x (λ same. differs (same ∙ at)) in
+    let found : KeepTheirHeaders g.D.Disk.tells c.args.shape c.args.watch.now c.recover_taken.new.watch d0 d2 =
+    their_called g.D.Disk.tells c.args.shape c.args.watch.now c.args.watch.now c.recover_taken.new.watch d0 d1 d2 c.args.peer c.recover_taken.ensures.ticks read
+    (one_called f c.compare_copies.new.disks i c.args.peer x c.index-disks-place.result at low (λ a b. KeepsItsHeader g.D.Disk.tells (own_header c.args.shape c.args.peer) c.args.watch.now c.recover_taken.new.watch a b) c.recover_taken.ensures.headed)
+    (λ peer differs. still_same g.D.Disk.tells (seen_at d1 peer) (seen_at d2 peer) (there peer differs)) in
+    let d3 : List DiskSeen = map f c.level_copies.new.disks in
+    their_then g.D.Disk.tells c.args.shape c.args.watch.now c.recover_taken.new.watch c.level_copies.new.watch d0 d2 d3 found c.level_copies.ensures.headed
+
+pub returns-in-Lost-clause-headed : goal.returns-in-Lost-clause-headed
+returns-in-Lost-clause-headed g c =
+    let f : g.row.D.Denot → DiskSeen = λ disk. seen_as (g.D.Disk.size disk) (g.D.Disk.stands disk) (g.D.Disk.faults disk) in
+    let d0 : List DiskSeen = map f c.args.disks.now in
+    let d1 : List DiskSeen = map f c.compare_copies.new.disks in
+    let since : (peer : ℕ) → g.D.Disk.tells → Since (seen_at d0 peer).stands = λ peer told. seen_since f (λ disk side m high. g.met.D.Disk.since told disk side m high) c.args.disks.now peer in
+    let one = c.compare_copies.ensures in
+    let read : KeepTheirHeaders g.D.Disk.tells c.args.shape c.args.watch.now c.args.watch.now d0 d1 =
+    their_still g.D.Disk.tells c.args.shape c.args.watch.now c.args.watch.now c.args.watch.now d0 d0 d1 (omega arith) (their_none g.D.Disk.tells c.args.shape c.args.watch.now d0 since) one.still in
+    let i : ℕ = c.from-place.result in
+    let at : i ≡ c.args.peer = c.from-place.ensures in
+    let low : i < length c.compare_copies.new.disks = omega (arith, at, c.requires.within, one.count, c.requires.count) in
+    let x = c.recover_taken.new.disk in
+    let d2 : List DiskSeen = map f (slice_set c.compare_copies.new.disks i x) in
+    let there : (peer : ℕ) → peer ≢ c.args.peer → seen_at d2 peer ≡ seen_at d1 peer = λ peer differs. seen_there f c.compare_copies.new.disks i peer x (λ same. differs (same ∙ at)) in
+    let found : KeepTheirHeaders g.D.Disk.tells c.args.shape c.args.watch.now c.recover_taken.new.watch d0 d2 =
+    their_called g.D.Disk.tells c.args.shape c.args.watch.now c.args.watch.now c.recover_taken.new.watch d0 d1 d2 c.args.peer c.recover_taken.ensures.ticks read
+    (one_called f c.compare_copies.new.disks i c.args.peer x c.index-disks-place.result at low (λ a b. KeepsItsHeader g.D.Disk.tells (own_header c.args.shape c.args.peer) c.args.watch.now c.recover_taken.new.watch a b) c.recover_taken.ensures.headed)
+    (λ peer differs. still_same g.D.Disk.tells (seen_at d1 peer) (seen_at d2 peer) (there peer differs)) in
+    let d3 : List DiskSeen = map f c.level_copies.new.disks in
+    their_then g.D.Disk.tells c.args.shape c.args.watch.now c.recover_taken.new.watch c.level_copies.new.watch d0 d2 d3 found c.level_copies.ensures.headed
+
+pub returns-in-Lost-clause-own : goal.returns-in-Lost-clause-own
+returns-in-Lost-clause-own g c =
+    let f : g.row.D.Denot → DiskSeen = λ disk. seen_as (g.D.Disk.size disk) (g.D.Disk.stands disk) (g.D.Disk.faults disk) in
+    let d0 : List DiskSeen = map f c.args.disks.now in
+    let d1 : List DiskSeen = map f c.compare_copies.new.disks in
+    λ owns.
+    let sorted : OwnTheirLogs g.D.Disk.tells c.args.shape (λ p. log_of (slot_at c.compare_copies.new.slots.items p)) =
+    owns_compared g.D.Disk.tells c.args.shape c.args.shard c.args.peer d0 d1 c.args.slots.now.items c.compare_copies.new.slots.items c.in-Ok.lost c.in-Ok.ensures.sorted owns in
+    let level = c.in-Ok-level_copies.ensures.own sorted in
+    level
+
+pub returns-in-Kept-clause-own : goal.returns-in-Kept-clause-own
+returns-in-Kept-clause-own g c =
+    let f : g.row.D.Denot → DiskSeen = λ disk. seen_as (g.D.Disk.size disk) (g.D.Disk.stands disk) (g.D.Disk.faults disk) in
+    let d0 : List DiskSeen = map f c.args.disks.now in
+    let d1 : List DiskSeen = map f c.compare_copies.new.disks in
+    λ owns.
+    let sorted : OwnTheirLogs g.D.Disk.tells c.args.shape (λ p. log_of (slot_at c.compare_copies.new.slots.items p)) =
+    owns_compared g.D.Disk.tells c.args.shape c.args.shard c.args.peer d0 d1 c.args.slots.now.items c.compare_copies.new.slots.items c.in-Ok.lost c.in-Ok.ensures.sorted owns in
+    let level = c.in-Ok-level_copies.ensures.own sorted in
+    let i : ℕ = c.from-place.result in
+    let at : i ≡ c.args.peer = c.from-place.ensures in
+    let low : i < length c.level_copies.new.slots.items = omega (arith, at, c.requires.within, c.level_copies.ensures.slots, c.compare_copies.ensures.slots, c.requires.slots) in
+    owns_set g.D.Disk.tells c.args.shape c.level_copies.new.slots.items i (Kept c.in-Kept.log) low level
+    (λ told. subst (λ n. OwnsLog (own_header c.args.shape n) (log_of (Kept c.in-Kept.log))) (sym at)
+    (subst (λ (s : Source). OwnsLog (own_header c.args.shape c.args.peer) (log_in s)) c.in-Kept.is
+    (owns_source g.D.Disk.tells (own_header c.args.shape c.args.peer) c.recover_taken.new.watch c.level_copies.new.watch (seen_at (map f (slice_set c.compare_copies.new.disks i c.recover_taken.new.disk)) c.args.peer) (seen_at (map f c.level_copies.new.disks) c.args.peer) c.in-Ok-recover_taken.source c.level_copies.new.source c.in-Ok-level_copies.ensures.made.source (c.in-Ok-recover_taken.ensures.own told))))

@@ -13,8 +13,11 @@ use Rattle.hs_taking.proofs.StepLemmas.{at_any}
 use Rattle.hs_taking.specs.declared.slot.Slot.{Slot}
 use Rattle.hs_taking.specs.declared.slot.Slot.TheVariants.{Aside, Viewed}
 use Rattle.hs_taking.specs.Disks.{DiskSeen, seen_as, seen_at}
-use Rattle.hs_taking.specs.Evens.{viewed_of}
+use Rattle.hs_taking.specs.Evens.{viewed_of, log_of}
 use Rattle.hs_taking.specs.Slots.{IsSlot, slot_at}
+use Rattle.hs_taking.proofs.HeadLemmas.{owns_none, owns_set, their_none}
+use Rattle.hs_side.specs.Headers.{own_header}
+use Rattle.hs_taking.specs.Headed.{OwnsLog}
 use Rattle.hs_taking.proofs.taking.take_shard.Goals as goal
 
 pub take_viewed-requires-clause-taken : goal.take_viewed-requires-clause-taken
@@ -145,3 +148,31 @@ returns-in-Some-clause-idle g c = λ none.
     let low : i < length slots = omega (arith, at, c.requires.within, c.requires.slots) in
     let was : slot_at slots c.args.peer ≡ c.replace-slot.result = ap (λ n. slot_at slots n) (sym at) ∙ sym (c.index_mut.ensures.value ∙ at_any slots i c.index_mut.result.now Aside low) ∙ sym c.replace-slot.ensures.value in
     absurd (none_viewed c.in-Some.view (sym none ∙ ap (λ (s : Slot). viewed_of s) was ∙ sym c.viewed_of.ensures ∙ c.in-Some.is))
+
+pub returns-in-Some-clause-own : goal.returns-in-Some-clause-own
+returns-in-Some-clause-own g c =
+    let f : g.row.D.Denot → DiskSeen = λ disk. seen_as (g.D.Disk.size disk) (g.D.Disk.stands disk) (g.D.Disk.faults disk) in
+    let slots : List Slot = c.args.slots.now.items in
+    let i : ℕ = c.from-place.result in
+    let at : i ≡ c.args.peer = c.from-place.ensures in
+    let low : i < length slots = omega (arith, at, c.requires.within, c.requires.slots) in
+    λ owns.
+    let bare = owns_set g.D.Disk.tells c.args.shape slots i c.replace-slot.new.dest low owns (λ told. subst (λ (s : Slot). OwnsLog (own_header c.args.shape i) (log_of s)) (sym c.replace-slot.ensures.after) (owns_none (own_header c.args.shape i))) in
+    c.take_viewed.ensures.own bare
+
+pub returns-in-None-clause-own : goal.returns-in-None-clause-own
+returns-in-None-clause-own g c =
+    let f : g.row.D.Denot → DiskSeen = λ disk. seen_as (g.D.Disk.size disk) (g.D.Disk.stands disk) (g.D.Disk.faults disk) in
+    let slots : List Slot = c.args.slots.now.items in
+    let i : ℕ = c.from-place.result in
+    let at : i ≡ c.args.peer = c.from-place.ensures in
+    let low : i < length slots = omega (arith, at, c.requires.within, c.requires.slots) in
+    λ owns.
+    let bare = owns_set g.D.Disk.tells c.args.shape slots i c.replace-slot.new.dest low owns (λ told. subst (λ (s : Slot). OwnsLog (own_header c.args.shape i) (log_of s)) (sym c.replace-slot.ensures.after) (owns_none (own_header c.args.shape i))) in
+    bare
+
+pub returns-in-None-clause-headed : goal.returns-in-None-clause-headed
+returns-in-None-clause-headed g c =
+    let f : g.row.D.Denot → DiskSeen = λ disk. seen_as (g.D.Disk.size disk) (g.D.Disk.stands disk) (g.D.Disk.faults disk) in
+    let d0 : List DiskSeen = map f c.args.disks.now in
+    their_none g.D.Disk.tells c.args.shape c.args.watch.now d0 (λ peer told. seen_since f (λ disk side m high. g.met.D.Disk.since told disk side m high) c.args.disks.now peer)

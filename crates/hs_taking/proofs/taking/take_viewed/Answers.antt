@@ -1,4 +1,4 @@
-use Rattle.std.proofs.Common.{◌≡◌, ◌≢◌, ◌∙◌, ◌<◌, ap, sym, subst, ℕ, List, Option, map, length, true, false, refl, arith, rules}
+use Rattle.std.proofs.Common.{◌≡◌, ◌≢◌, ◌∙◌, ◌<◌, ap, sym, subst, ℕ, List, Option, map, length, true, false, refl, arith, rules, inl, inr}
 use Rattle.std.specs.Prelude.{slice_index_or, slice_set}
 use Rattle.hs_fold.specs.Shards.Setting.{Numbered}
 use Rattle.hs_memory.specs.Forget.{apply_all}
@@ -19,6 +19,9 @@ use Rattle.hs_taking.specs.Evens.{AreEvened, has_kept}
 use Rattle.hs_taking.specs.Loaded.{IsLoaded}
 use Rattle.hs_taking.specs.Pairs.{IsStill}
 use Rattle.hs_taking.specs.Viewed.{IsViewOf}
+use Rattle.hs_taking.proofs.HeadLemmas.{their_none, their_still, their_then}
+use Rattle.hs_taking.specs.Headed.{KeepTheirHeaders}
+use Rattle.std.proofs.lemmas.Bool.{cases_eq}
 use Rattle.hs_taking.proofs.taking.take_viewed.Goals as goal
 
 pub returns-then-is_memory-clause-moved : goal.returns-then-is_memory-clause-moved
@@ -220,3 +223,103 @@ returns-clause-takes g c =
     let kept : has_kept c.args.shape slots' c.args.shard ≡ c.has_kept.result = ap (λ (s : List Slot). has_kept c.args.shape s c.args.shard) (sym same) ∙ sym c.has_kept.ensures in
     view_takes g.D.Disk.tells fold c.args.shape c.args.shard c.args.peer c.args.watch.now c.even_shard.new.watch d0 d2 c.args.slots.now.items slots' c.args.view _ c.requires.taken (search rules) copies c.in-Ok.loaded loaded c.in-Ok.ensures.ranked
     true (kept ∙ search rules) refl refl
+
+pub returns-then-is_memory-clause-headed : goal.returns-then-is_memory-clause-headed
+returns-then-is_memory-clause-headed g c =
+    let f : g.row.D.Denot → DiskSeen = λ disk. seen_as (g.D.Disk.size disk) (g.D.Disk.stands disk) (g.D.Disk.faults disk) in
+    let d0 : List DiskSeen = map f c.args.disks.now in
+    let i : ℕ = c.from-place.result in
+    let at : i ≡ c.args.peer = c.from-place.ensures in
+    let low : i < length c.args.disks.now = omega (arith, at, c.requires.within, c.requires.count) in
+    let x = c.load.new.disk in
+    let d1 : List DiskSeen = map f (slice_set c.args.disks.now i x) in
+    let since : (peer : ℕ) → g.D.Disk.tells → Since (seen_at d0 peer).stands = λ peer told. seen_since f (λ disk side m high. g.met.D.Disk.since told disk side m high) c.args.disks.now peer in
+    let still : IsStill g.D.Disk.tells (seen_at d0 c.args.peer) (seen_at d1 c.args.peer) =
+    one_called f c.args.disks.now i c.args.peer x c.index-disks-place.result at low (λ a b. IsStill g.D.Disk.tells a b) (record { same = c.load.ensures.same; size = c.load.ensures.same_size; counted = c.load.ensures.cause.later }) in
+    let each : (peer : ℕ) → IsStill g.D.Disk.tells (seen_at d0 peer) (seen_at d1 peer) = λ peer. elim (cases_eq peer c.args.peer) [
+      | inl same ↦ subst (λ n. IsStill g.D.Disk.tells (seen_at d0 n) (seen_at d1 n)) (sym same) still
+      | inr differs ↦ still_same g.D.Disk.tells (seen_at d0 peer) (seen_at d1 peer) (seen_there f c.args.disks.now i peer x (λ same. differs (same ∙ at)))
+    ] in
+    let read : KeepTheirHeaders g.D.Disk.tells c.args.shape c.args.watch.now c.args.watch.now d0 d1 =
+    their_still g.D.Disk.tells c.args.shape c.args.watch.now c.args.watch.now c.args.watch.now d0 d0 d1 (omega arith) (their_none g.D.Disk.tells c.args.shape c.args.watch.now d0 since) each in
+    read
+
+pub returns-in-Err-clause-headed : goal.returns-in-Err-clause-headed
+returns-in-Err-clause-headed g c =
+    let f : g.row.D.Denot → DiskSeen = λ disk. seen_as (g.D.Disk.size disk) (g.D.Disk.stands disk) (g.D.Disk.faults disk) in
+    let d0 : List DiskSeen = map f c.args.disks.now in
+    let i : ℕ = c.from-place.result in
+    let at : i ≡ c.args.peer = c.from-place.ensures in
+    let low : i < length c.args.disks.now = omega (arith, at, c.requires.within, c.requires.count) in
+    let x = c.load.new.disk in
+    let d1 : List DiskSeen = map f (slice_set c.args.disks.now i x) in
+    let since : (peer : ℕ) → g.D.Disk.tells → Since (seen_at d0 peer).stands = λ peer told. seen_since f (λ disk side m high. g.met.D.Disk.since told disk side m high) c.args.disks.now peer in
+    let still : IsStill g.D.Disk.tells (seen_at d0 c.args.peer) (seen_at d1 c.args.peer) =
+    one_called f c.args.disks.now i c.args.peer x c.index-disks-place.result at low (λ a b. IsStill g.D.Disk.tells a b) (record { same = c.load.ensures.same; size = c.load.ensures.same_size; counted = c.load.ensures.cause.later }) in
+    let each : (peer : ℕ) → IsStill g.D.Disk.tells (seen_at d0 peer) (seen_at d1 peer) = λ peer. elim (cases_eq peer c.args.peer) [
+      | inl same ↦ subst (λ n. IsStill g.D.Disk.tells (seen_at d0 n) (seen_at d1 n)) (sym same) still
+      | inr differs ↦ still_same g.D.Disk.tells (seen_at d0 peer) (seen_at d1 peer) (seen_there f c.args.disks.now i peer x (λ same. differs (same ∙ at)))
+    ] in
+    let read : KeepTheirHeaders g.D.Disk.tells c.args.shape c.args.watch.now c.args.watch.now d0 d1 =
+    their_still g.D.Disk.tells c.args.shape c.args.watch.now c.args.watch.now c.args.watch.now d0 d0 d1 (omega arith) (their_none g.D.Disk.tells c.args.shape c.args.watch.now d0 since) each in
+    read
+
+pub returns-in-Err-even_shard-clause-headed : goal.returns-in-Err-even_shard-clause-headed
+returns-in-Err-even_shard-clause-headed g c =
+    let f : g.row.D.Denot → DiskSeen = λ disk. seen_as (g.D.Disk.size disk) (g.D.Disk.stands disk) (g.D.Disk.faults disk) in
+    let d0 : List DiskSeen = map f c.args.disks.now in
+    let i : ℕ = c.from-place.result in
+    let at : i ≡ c.args.peer = c.from-place.ensures in
+    let low : i < length c.args.disks.now = omega (arith, at, c.requires.within, c.requires.count) in
+    let x = c.load.new.disk in
+    let d1 : List DiskSeen = map f (slice_set c.args.disks.now i x) in
+    let since : (peer : ℕ) → g.D.Disk.tells → Since (seen_at d0 peer).stands = λ peer told. seen_since f (λ disk side m high. g.met.D.Disk.since told disk side m high) c.args.disks.now peer in
+    let still : IsStill g.D.Disk.tells (seen_at d0 c.args.peer) (seen_at d1 c.args.peer) =
+    one_called f c.args.disks.now i c.args.peer x c.index-disks-place.result at low (λ a b. IsStill g.D.Disk.tells a b) (record { same = c.load.ensures.same; size = c.load.ensures.same_size; counted = c.load.ensures.cause.later }) in
+    let each : (peer : ℕ) → IsStill g.D.Disk.tells (seen_at d0 peer) (seen_at d1 peer) = λ peer. elim (cases_eq peer c.args.peer) [
+      | inl same ↦ subst (λ n. IsStill g.D.Disk.tells (seen_at d0 n) (seen_at d1 n)) (sym same) still
+      | inr differs ↦ still_same g.D.Disk.tells (seen_at d0 peer) (seen_at d1 peer) (seen_there f c.args.disks.now i peer x (λ same. differs (same ∙ at)))
+    ] in
+    let read : KeepTheirHeaders g.D.Disk.tells c.args.shape c.args.watch.now c.args.watch.now d0 d1 =
+    their_still g.D.Disk.tells c.args.shape c.args.watch.now c.args.watch.now c.args.watch.now d0 d0 d1 (omega arith) (their_none g.D.Disk.tells c.args.shape c.args.watch.now d0 since) each in
+    their_then g.D.Disk.tells c.args.shape c.args.watch.now c.args.watch.now c.even_shard.new.watch d0 d1 (map f c.even_shard.new.disks) read c.even_shard.ensures.headed
+
+pub returns-then-not-has_kept-clause-headed : goal.returns-then-not-has_kept-clause-headed
+returns-then-not-has_kept-clause-headed g c =
+    let f : g.row.D.Denot → DiskSeen = λ disk. seen_as (g.D.Disk.size disk) (g.D.Disk.stands disk) (g.D.Disk.faults disk) in
+    let d0 : List DiskSeen = map f c.args.disks.now in
+    let i : ℕ = c.from-place.result in
+    let at : i ≡ c.args.peer = c.from-place.ensures in
+    let low : i < length c.args.disks.now = omega (arith, at, c.requires.within, c.requires.count) in
+    let x = c.load.new.disk in
+    let d1 : List DiskSeen = map f (slice_set c.args.disks.now i x) in
+    let since : (peer : ℕ) → g.D.Disk.tells → Since (seen_at d0 peer).stands = λ peer told. seen_since f (λ disk side m high. g.met.D.Disk.since told disk side m high) c.args.disks.now peer in
+    let still : IsStill g.D.Disk.tells (seen_at d0 c.args.peer) (seen_at d1 c.args.peer) =
+    one_called f c.args.disks.now i c.args.peer x c.index-disks-place.result at low (λ a b. IsStill g.D.Disk.tells a b) (record { same = c.load.ensures.same; size = c.load.ensures.same_size; counted = c.load.ensures.cause.later }) in
+    let each : (peer : ℕ) → IsStill g.D.Disk.tells (seen_at d0 peer) (seen_at d1 peer) = λ peer. elim (cases_eq peer c.args.peer) [
+      | inl same ↦ subst (λ n. IsStill g.D.Disk.tells (seen_at d0 n) (seen_at d1 n)) (sym same) still
+      | inr differs ↦ still_same g.D.Disk.tells (seen_at d0 peer) (seen_at d1 peer) (seen_there f c.args.disks.now i peer x (λ same. differs (same ∙ at)))
+    ] in
+    let read : KeepTheirHeaders g.D.Disk.tells c.args.shape c.args.watch.now c.args.watch.now d0 d1 =
+    their_still g.D.Disk.tells c.args.shape c.args.watch.now c.args.watch.now c.args.watch.now d0 d0 d1 (omega arith) (their_none g.D.Disk.tells c.args.shape c.args.watch.now d0 since) each in
+    their_then g.D.Disk.tells c.args.shape c.args.watch.now c.args.watch.now c.even_shard.new.watch d0 d1 (map f c.even_shard.new.disks) read c.even_shard.ensures.headed
+
+pub returns-clause-headed : goal.returns-clause-headed
+returns-clause-headed g c =
+    let f : g.row.D.Denot → DiskSeen = λ disk. seen_as (g.D.Disk.size disk) (g.D.Disk.stands disk) (g.D.Disk.faults disk) in
+    let d0 : List DiskSeen = map f c.args.disks.now in
+    let i : ℕ = c.from-place.result in
+    let at : i ≡ c.args.peer = c.from-place.ensures in
+    let low : i < length c.args.disks.now = omega (arith, at, c.requires.within, c.requires.count) in
+    let x = c.load.new.disk in
+    let d1 : List DiskSeen = map f (slice_set c.args.disks.now i x) in
+    let since : (peer : ℕ) → g.D.Disk.tells → Since (seen_at d0 peer).stands = λ peer told. seen_since f (λ disk side m high. g.met.D.Disk.since told disk side m high) c.args.disks.now peer in
+    let still : IsStill g.D.Disk.tells (seen_at d0 c.args.peer) (seen_at d1 c.args.peer) =
+    one_called f c.args.disks.now i c.args.peer x c.index-disks-place.result at low (λ a b. IsStill g.D.Disk.tells a b) (record { same = c.load.ensures.same; size = c.load.ensures.same_size; counted = c.load.ensures.cause.later }) in
+    let each : (peer : ℕ) → IsStill g.D.Disk.tells (seen_at d0 peer) (seen_at d1 peer) = λ peer. elim (cases_eq peer c.args.peer) [
+      | inl same ↦ subst (λ n. IsStill g.D.Disk.tells (seen_at d0 n) (seen_at d1 n)) (sym same) still
+      | inr differs ↦ still_same g.D.Disk.tells (seen_at d0 peer) (seen_at d1 peer) (seen_there f c.args.disks.now i peer x (λ same. differs (same ∙ at)))
+    ] in
+    let read : KeepTheirHeaders g.D.Disk.tells c.args.shape c.args.watch.now c.args.watch.now d0 d1 =
+    their_still g.D.Disk.tells c.args.shape c.args.watch.now c.args.watch.now c.args.watch.now d0 d0 d1 (omega arith) (their_none g.D.Disk.tells c.args.shape c.args.watch.now d0 since) each in
+    their_then g.D.Disk.tells c.args.shape c.args.watch.now c.args.watch.now c.even_shard.new.watch d0 d1 (map f c.even_shard.new.disks) read c.even_shard.ensures.headed
