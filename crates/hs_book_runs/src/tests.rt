@@ -36,8 +36,9 @@ fn blank(alloc: Global, count: u8) -> Result<Vec<MemoryDisk>, RunFault>
     let mut disks = Vec::new(alloc);
     for _peer in 0..count {
         let disk = MemoryDisk::new(alloc, Vec::new(alloc), Vec::new(alloc), Vec::new(alloc));
-        if disks.push(disk).is_err() {
-            return Err(RunFault::NoMemory);
+        match disks.push(disk) {
+            Ok(()) => {}
+            Err(_) => return Err(RunFault::NoMemory),
         }
     }
     Ok(disks)
@@ -86,7 +87,8 @@ fn compared(alloc: Global, shape: Shape) -> Result<(bool, bool, usize), RunFault
 {
     let peers = shape.shards * shape.copies;
     let (core, answered) = of_book(alloc, shape, blank(alloc, peers)?)?;
-    let journal = of_script(alloc, shape, blank(alloc, peers)?.as_mut_slice())?;
+    let mut disks = blank(alloc, peers)?;
+    let journal = of_script(alloc, shape, disks.as_mut_slice())?;
     let entries = journal.entries();
     let same = are_same(core.journal().entries(), entries);
     Ok((answered, same, entries.len()))

@@ -8,6 +8,7 @@ use std::alloc::{AllocError, Global};
 
 /// How many steps a worker has in one turn at most, and how many turns all workers have.
 const MOST_STEPS: u32 = 1000;
+
 const MOST_TURNS: u32 = 1000;
 
 /// The seats of so many peers.
