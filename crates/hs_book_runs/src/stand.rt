@@ -19,17 +19,13 @@ pub(crate) struct Stand<D: Disk> {
 }
 
 impl<D: Disk> Model for Stand<D> {
-    ghost use Rattle.std.specs.Prelude.{◌≡◌, ◌×◌, map, vec_len};
-    ghost use Rattle.hs_book_runs.specs.Stands.{Standing};
+    ghost use Rattle.std.specs.Prelude.{◌≡◌, List, Option, map, vec_len};
+    ghost use Rattle.hs_peerlog.specs.Lists.{Keeping};
     ghost use Rattle.hs_taking.specs.Disks.{AreReady, seen_as};
 
-    ghost Value = { Standing };
+    ghost Value = { List (Option Keeping) };
 
-    ghost view = { λ s. record {
-      logs = s.logs.items;
-      disks = map (λ disk. seen_as (D.size disk) (D.stands disk) (D.faults disk)) s.disks.items;
-      now = s.watch;
-    } };
+    ghost view = { λ s. s.logs.items };
 
     ghost invariant = { λ s. (vec_len s.logs ≡ vec_len s.disks)
         × AreReady D.tells s.logs.items
