@@ -15,7 +15,7 @@ use hs_ports::{Disk, Watch};
 use hs_readable::is_readable;
 
 /// Does a job that a desk handed out. `place` numbers were stored before.
-pub(crate) fn do_job<D: Disk>(
+pub fn do_job<D: Disk>(
     log: &mut PeerLog,
     disk: &mut D,
     watch: &mut Watch,
@@ -193,7 +193,7 @@ fn shown_of(number: u64, entry: Entry) -> Done
 }
 
 /// Whether a report tells that a disk failed.
-pub(crate) fn is_failed(done: &Done) -> bool
+pub fn is_failed(done: &Done) -> bool
     ensures { result ≡ is_failed done.now }
 {
     matches!(done, Done::Failed { .. })

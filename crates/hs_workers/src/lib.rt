@@ -18,6 +18,7 @@ pub use beside::all_work;
 pub use deleter::deleter_work;
 pub use element::{Deleter, Element, Worker, Writer};
 pub use fault::WorkFault;
+pub use job::{do_job, is_failed};
 pub use peer::peer_work;
 pub use shared::Shared;
 pub use writer::writer_work;
