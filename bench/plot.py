@@ -3,8 +3,8 @@
 
 What each measure prints is kept in a file of the folder --out (out/bench), and the pictures beside it: lines.svg (lines a
 second on files, by shards and copies), syncs.svg (syncs an entry, by the same), deletions.svg (writes amid a deletion run
-beside writes without one), opening.svg (the time of opening, by blocks), loads.svg (operations a second of a load), and
-files.svg (files kept and given back, beside restic and borg where these are there). `--draw` runs nothing and draws what
+beside writes without one), opening.svg (the time of opening, by blocks), loads.svg and loads_memory.svg (operations a second of a
+load), and files.svg (files kept and given back, beside restic and borg where these are there). `--draw` runs nothing and draws what
 is there; `--only NAME ..` runs these measures alone; `--quick` takes fewer rounds, for a look.
 """
 import argparse
@@ -16,7 +16,7 @@ import sys
 HERE = os.path.dirname(os.path.abspath(__file__))
 SHARDS, COPIES = (1, 2, 4, 8), (1, 2, 3, 4)
 COLOURS = ("#1f6f8b", "#d1495b", "#edae49", "#66a182", "#7d5ba6", "#555555")
-WIDTH, HEIGHT, LEFT, TOP, RIGHT, BOTTOM = 640, 400, 80, 50, 150, 60
+WIDTH, HEIGHT, LEFT, TOP, RIGHT, BOTTOM = 660, 400, 80, 50, 170, 60
 NUMBER = r"([\d.,]+)"
 
 
@@ -118,14 +118,14 @@ class Picture:
         print(path)
 
 
-def lines(path, title, upward, across, series):
-    """Lines through points, each series a name and its points (x, y); the places across are those that come, in order."""
+def lines(path, title, upward, across, series, to_scale=False):
+    """Lines through points, each series a name and its points (x, y); the places across are those that come, in order, or to scale."""
     series = [(name, points) for name, points in series if points]
     if not series:
         return
     places = sorted({x for _, points in series for x, _ in points})
     picture = Picture(title, upward, across, max(y for _, points in series for _, y in points))
-    at = {x: LEFT + picture.width() * (place + 0.5) / len(places) for place, x in enumerate(places)}
+    at = {x: LEFT + picture.width() * ((0.05 + 0.9 * x / places[-1]) if to_scale else (place + 0.5) / len(places)) for place, x in enumerate(places)}
     for x in places:
         picture.mark(at[x], f"{x:,.6g}")
     for place, (name, points) in enumerate(series):
@@ -176,20 +176,24 @@ def draw(out):
     rows = numbers(rf"opening {NUMBER} blocks: {NUMBER} ms", said(out, "opening"))
     none = numbers(rf"opening none: {NUMBER} ms", said(out, "opening"))
     lines(f"{out}/opening.svg", "Opening a store", "ms of processor time", "blocks of 64 bytes",
-          [("opening", [(0, none[0][0]), *rows] if none else rows)])
+          [("opening", [(0, none[0][0]), *rows] if none else rows)], to_scale=True)
     loads(out)
     files(out)
 
 
 def loads(out):
-    """Operations a second by shards, with 8 writers, of each of the three kinds of disks."""
-    series = []
+    """Operations a second by shards, with 8 writers: on disks whose syncs take time, and in memory."""
+    slow, fast = [], []
     for part in re.split(r"(?m)^(?=\S)", said(out, "loads")):
-        head = part.partition(":\n")[0].replace("loads of 20 files a writer, ", "").replace("where each sync lasts ", "syncs of ")
+        head = part.partition(":\n")[0]
+        lasts = re.search(r"each sync lasts (.*)", head)
+        kind = f"{lasts.group(1)} a sync" if lasts else "on files" if "on files" in head else "in memory"
         for copies, row in re.findall(r"(\d) copies, 8 writers, shards 1, 2, 4, 8: operations a second ([\d, ]+)", part):
             values = [float(word) for word in row.split(",") if word.strip()]
-            series.append((f"{head[:14]}, {copies}", list(zip(SHARDS, values))))
-    lines(f"{out}/loads.svg", "Loads by 8 writers", "operations a second", "shards", series[:len(COLOURS)])
+            name = f"{kind}, {copies} cop{'y' if copies == '1' else 'ies'}"
+            (fast if kind == "in memory" else slow).append((name, list(zip(SHARDS, values))))
+    lines(f"{out}/loads.svg", "Loads by 8 writers, on files and where syncs last", "operations a second", "shards", slow)
+    lines(f"{out}/loads_memory.svg", "Loads by 8 writers, in memory", "operations a second", "shards", fast)
 
 
 def files(out):

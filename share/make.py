@@ -46,12 +46,30 @@ def constant(name):
 def commands(text):
     """Each command, with its options in the order of the text."""
     found = {}
-    for name, words in re.findall(r"^  hydra (\w+) DIR G R(.*)$", text, re.M):
+    for name, words in re.findall(r"^  hydra (\w+) (DIR G R.*)$", text, re.M):
         found.setdefault(name, re.findall(r"--\w+", words))
     if "script" not in found:
         give_up("no command `script` is in the text")
     found["script"] = re.findall(r"^  (--\w+) N  ", text, re.M)
     return found
+
+
+def places(text):
+    """Each command, with the words that it takes before its options, in order: folders, shapes and a key."""
+    return {name: words.split() for name, words in re.findall(r"^  hydra (\w+) ((?:[A-Z]+\d?(?: |$))+)", text, re.M)}
+
+
+def by_place(text, folder, word, ends):
+    """A row for each place of a command's words that one is known for, and then for its options, as a shell's `case` has it."""
+    known = {"G": numbers(text, "blocks are parted", "G"), "R": numbers(text, "copies of each", "R")}
+    rows = []
+    for name, words in places(text).items():
+        for at, what in enumerate(words, 2):
+            kind = what.rstrip("2")
+            say = folder if kind == "DIR" else word.format(" ".join(known[kind])) if kind in known else ":"
+            rows.append(f"        {name}:{at}) {say} ;;")
+        rows.append(f"        {name}:*) [ $(((at - {len(words)}) % 2)) -eq 1 ] || {ends} ;;")
+    return "\n".join(rows)
 
 
 def launcher(text):
@@ -104,12 +122,10 @@ _hydra() {{
     case $command in
 {options}
     esac
-    case $at in
-        1) COMPREPLY=($(compgen -W "{' '.join([*known, *launcher(text), *ALONE])}" -- "$word")) ;;
-        2) COMPREPLY=($(compgen -f -- "$word")) ;;
-        3) COMPREPLY=($(compgen -W "{' '.join(numbers(text, 'blocks are parted', 'G'))}" -- "$word")) ;;
-        4) COMPREPLY=($(compgen -W "{' '.join(numbers(text, 'copies of each', 'R'))}" -- "$word")) ;;
-        *) [ $((at % 2)) -eq 0 ] || COMPREPLY=($(compgen -W "$options" -- "$word")) ;;
+    case $command:$at in
+        *:1) COMPREPLY=($(compgen -W "{' '.join([*known, *launcher(text), *ALONE])}" -- "$word")) ;;
+{by_place(text, 'COMPREPLY=($(compgen -f -- "$word"))', 'COMPREPLY=($(compgen -W "{}" -- "$word"))', 'COMPREPLY=($(compgen -W "$options" -- "$word"))')}
+        *) COMPREPLY=($(compgen -f -- "$word")) ;;
     esac
 }}
 complete -o filenames -F _hydra hydra
@@ -130,12 +146,10 @@ fi
 case $command in
 {options}
 esac
-case $at in
-    1) compadd -- {' '.join([*known, *launcher(text), *ALONE])} ;;
-    2) _files ;;
-    3) compadd -- {' '.join(numbers(text, 'blocks are parted', 'G'))} ;;
-    4) compadd -- {' '.join(numbers(text, 'copies of each', 'R'))} ;;
-    *) (( at % 2 )) && compadd -- $options ;;
+case $command:$at in
+    *:1) compadd -- {' '.join([*known, *launcher(text), *ALONE])} ;;
+{by_place(text, '_files', 'compadd -- {}', 'compadd -- $options').replace('        ', '    ')}
+    *) _files ;;
 esac
 """
 
