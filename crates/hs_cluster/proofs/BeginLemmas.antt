@@ -14,10 +14,12 @@ use Rattle.hs_peerlog.specs.declared.fault.LogFault.TheVariants as log
 use Rattle.hs_peerlog.specs.Opening.{refusal_in}
 use Rattle.hs_ports.specs.Fault.{HasRisen}
 use Rattle.hs_side.specs.declared.header.Header.{Header}
+use Rattle.hs_side.specs.Headers.{own_header}
 use Rattle.hs_taking.specs.Copies.{HasEvened}
 use Rattle.hs_taking.specs.declared.fault.TakeFault.{TakeFault}
 use Rattle.hs_taking.specs.declared.fault.TakeFault.TheVariants as take
-use Rattle.hs_taking.specs.Disks.{DiskSeen, seen_at}
+use Rattle.hs_taking.specs.Disks.{DiskSeen, log_at, seen_at}
+use Rattle.hs_taking.specs.Headed.{KeepsItsHeader, OwnTheirLogs}
 use Rattle.hs_taking.specs.Shares.{Span, Taken}
 use Rattle.hs_taking.specs.Viewed.{IsOther}
 
@@ -40,8 +42,9 @@ unwritten_memory P (Err fault) h = λ at found e. cc (sym h ∙ e)
 pub begins_ok : (tells : Type 0) (set : Setting) (span : Span) (taken : Taken) (entry moment : ℕ) (r : Result Running ClusterFault) → entry ≡ span.before → moment ≡ span.now → IsShape set.shape → HasEvened tells set span taken → length taken.shares ≡ set.shape.shards
     → length taken.logs ≡ set.shape.shards * set.shape.copies → span.before ≤ span.now → length span.old ≡ set.shape.shards * set.shape.copies → length span.new ≡ length span.old → NoneFalls span.old span.new
     → (tells → (peer : ℕ) (found : Header) → peer < length span.old → refusal_in set.shape peer (seen_at span.old peer).stands.seen ≡ Some (log.WrongShape found) → HasRisen (seen_at span.old peer).faults (seen_at span.new peer).faults)
+    → OwnTheirLogs tells set.shape (log_at taken.logs) → ((peer : ℕ) → peer < length span.old → KeepsItsHeader tells (own_header set.shape peer) span.before span.now (seen_at span.old peer) (seen_at span.new peer))
     → IfOk r (λ c. c.logs ≡ taken.logs) → IfOk r (λ c. c.core ≡ open_core set.shape set.limits (opened_with taken) moment) → IfOk r (λ c. c.course ≡ begun_course set.shape entry moment taken) → IfOk r (Begins tells set span)
-begins_ok tells set span taken entry moment (Ok c) first last shape read shares count ticks disks left falls own logs core course = record {
+begins_ok tells set span taken entry moment (Ok c) first last shape read shares count ticks disks left falls own owns headed logs core course = record {
   taken = taken;
   shape = shape;
   read = read;
@@ -53,7 +56,9 @@ begins_ok tells set span taken entry moment (Ok c) first last shape read shares 
   disks = disks;
   left = left;
   logs = logs;
+  owns = owns;
+  headed = headed;
   core = core ∙ ap (λ m. open_core set.shape set.limits (opened_with taken) m) last;
   course = course ∙ (λ i. begun_course set.shape (first i) (last i) taken);
 }
-begins_ok tells set span taken entry moment (Err fault) first last shape read shares count ticks disks left falls own logs core course = tt
+begins_ok tells set span taken entry moment (Err fault) first last shape read shares count ticks disks left falls own owns headed logs core course = tt

@@ -5,7 +5,6 @@ use Rattle.std.proofs.lemmas.List.{get_or-set_same, get_or-set_other}
 use Rattle.std.specs.Option.{option_map, option_or}
 use Rattle.std.specs.Prelude.{◌==◌, ◌||◌, ◌&&◌, IfOk, Result, Ok, Err, if◌then◌else◌, is_none, is_some, nat_lt, not, slice_index_or, slice_set}
 use Rattle.hs_cluster.proofs.DiskLemmas.{length_map, length_set, stands_at, stands_other, stands_set}
-use Rattle.hs_cluster.proofs.HeadLemmas.{heads_still}
 use Rattle.hs_cluster.proofs.JobLemmas.{Since}
 use Rattle.hs_cluster.specs.Disks.{DiskSeen, log_at, seen_at, stands_of}
 use Rattle.hs_cluster.specs.Jobs.{Empties, FailsAlone, HasCopied, IsAnyOrNone, LeavesCopy, StandsBeside, Try, WithCopy, Working, Works, WorksAlone, is_own}
@@ -35,6 +34,7 @@ use Rattle.hs_model.specs.Refusals.{first}
 use Rattle.hs_post.specs.Pool.{is_empty}
 use Rattle.hs_side.specs.declared.header.Header.{Header}
 use Rattle.hs_taking.proofs.DiskLemmas.{seen_here, seen_is, seen_there}
+use Rattle.hs_taking.proofs.HeadLemmas.{heads_still}
 use Rattle.hs_taking.proofs.PastLemmas.{past_still}
 
 none_is_not : {A : Type 0} (x : A) → None ≡ Some x → ⊥
@@ -296,7 +296,7 @@ works_cut head logs disks f peer now todo fault since works = record {
     log = tt;
     own = tt;
     moments = λ lists leaves headed. stays_with now (disk_at (stands_of (map f disks)) peer) [] (IsAnyOrNone lists) last since (any_gives (disk_at (stands_of (map f disks)) peer) lists leaves);
-    headed = λ lists leaves headed. (heads_still head now now (disk_at (stands_of (map f disks)) peer) (omega arith) last since headed).keeps;
+    headed = λ headed. (heads_still head now now (disk_at (stands_of (map f disks)) peer) (omega arith) last since headed).keeps;
     past = past_still now now (disk_at (stands_of (map f disks)) peer) (omega arith) last;
   };
   copies = λ from number at differs last lead keeping theirs list ahead waiting lead_at lead_has at_peer has. record {

@@ -3,7 +3,7 @@ use Rattle.std.proofs.Common.{◌≡◌, ◌∙◌, ◌⊎◌, inl, inr, ap, sym
 use Rattle.std.proofs.lemmas.Bool.{cases_lt}
 use Rattle.std.specs.Prelude.{IfOk, IsSome, Result, Ok, Err, if◌then◌else◌}
 use Rattle.hs_cluster.proofs.JobLemmas.{weaker}
-use Rattle.hs_cluster.specs.Jobs.{HasCopied, IsAnyOrNone, OwnsLog, Try, WithCopy, sealed_list}
+use Rattle.hs_cluster.specs.Jobs.{HasCopied, IsAnyOrNone, Try, WithCopy, sealed_list}
 use Rattle.hs_desk.specs.declared.done.Done.TheVariants as done
 use Rattle.hs_entry.specs.declared.entry.Entry.{Entry}
 use Rattle.hs_entry.specs.declared.rank.Rank.{Rank}
@@ -112,12 +112,6 @@ pub own_emptied : {E : Type 0} (header : Header) (generation : ℕ) (log : Keepi
     → IfOk result (λ emptied. (generation : ℕ) × (emptied.log.head ≡ Some (header, generation)))
 own_emptied header generation log (Ok emptied) head same = (generation, same ∙ head)
 own_emptied header generation log (Err fault) head same = tt
-
-pub own_slot : (header : Header) (log : Keeping) → (generation : ℕ) × (log.log.head ≡ Some (header, generation)) → OwnsLog header (Some log)
-own_slot header log own = λ keeping at. subst (λ (k : Keeping). (generation : ℕ) × (k.log.head ≡ Some (header, generation))) (some_is log keeping at) own
-
-pub own_none : (header : Header) (kept : Option Keeping) → kept ≡ None → OwnsLog header kept
-own_none header kept gone = λ keeping at. absurd (none_is_not keeping (sym gone ∙ at))
 
 -- some list was found
 pub list_found : (P : Type 0) (o : Option Numbered) → IsSome o → ((list : Numbered) → o ≡ Some list → P) → P

@@ -7,16 +7,20 @@ use Rattle.std.specs.List.{All, enumerate_from}
 use Rattle.std.specs.Prelude.{IsSome, OnOk, Result, Ok, Err, ⊤, take}
 use Rattle.hs_cluster.proofs.CountLemmas.{rises_within}
 use Rattle.hs_cluster.proofs.EventLemmas.{still_going}
+use Rattle.hs_cluster.proofs.HeadLemmas.{header_shown, heads_next}
+use Rattle.hs_cluster.proofs.OpenedLemmas.{shape_opens}
 use Rattle.hs_cluster.proofs.FoundLemmas.{begins_so, finds, found, opens_so, was_read}
 use Rattle.hs_cluster.proofs.OpeningMoves.{all_good, alone_sane, alone_whole, jobs_first, same_members, sealed_first}
 use Rattle.hs_cluster.proofs.StretchLemmas.{rises_to}
-use Rattle.hs_cluster.specs.Begins.{Begins, HasOpened}
+use Rattle.hs_cluster.specs.Begins.{Begins, HasOpened, opened_with}
 use Rattle.hs_cluster.specs.Calls.{Does, ran_out}
 use Rattle.hs_cluster.specs.Calm.{GoesCalmly}
 use Rattle.hs_cluster.specs.Counts.{AreAllCounted, AreCounted}
 use Rattle.hs_cluster.specs.declared.fault.ClusterFault.{ClusterFault}
+use Rattle.hs_cluster.specs.Headed.{IsHeadedAt, IsOwnAt, KeepsHeads, LeavesHeads}
 use Rattle.hs_cluster.specs.Kept.{CanGoOn, CanRead, KeepsLogs, LeavesLists, ReadsLogs, sealed_front}
-use Rattle.hs_cluster.specs.Opens.{Finds, IsFound, LeaveOneList, Opens}
+use Rattle.hs_cluster.specs.Opens.{Finds, IsFound, LeaveOneList, Opens, OpensLists}
+use Rattle.hs_cluster.specs.PeerLogs.{KeepsPeers}
 use Rattle.hs_cluster.specs.Past.{HoldsLog, LeavesPast}
 use Rattle.hs_cluster.specs.Rooms.{HaveRecordRoom}
 use Rattle.hs_cluster.specs.Running.{Running}
@@ -36,6 +40,7 @@ use Rattle.hs_events.specs.Whole.{Whole, counts, floor, grown, open_whole, reach
 use Rattle.hs_fold.proofs.PrefixLemmas.{last-length}
 use Rattle.hs_fold.specs.Images.{IsLeft}
 use Rattle.hs_fold.specs.Shards.Setting.{Numbered, Setting}
+use Rattle.hs_limits.specs.declared.shape.Shape.{Shape}
 use Rattle.hs_members.specs.Members.{IsPeer, Members, home_of}
 use Rattle.hs_moments.proofs.AloneEventLemmas.{home_here}
 use Rattle.hs_moments.proofs.HappenedLemmas.{happened_rise}
@@ -45,6 +50,7 @@ use Rattle.hs_moments.proofs.WorkLemmas.{floor_alone, none_appended, reach_sane}
 use Rattle.hs_moments.specs.Machine.{runs, state_at, until}
 use Rattle.hs_moments.specs.Moments.{GivesFine, IsStanding, Keeps}
 use Rattle.hs_moments.specs.WholeMachine.{IsFrontOf, last_of, whole_machine}
+use Rattle.hs_peerlog.specs.Heads.{LeavesHeader}
 use Rattle.hs_peerlog.specs.Images.{GivesList, Is, LeavesOnly}
 use Rattle.hs_peerlog.specs.Lists.{GoOn, HasLog, IsKept, Keeping}
 use Rattle.hs_ports.specs.declared.disk.Side.{Side}
@@ -53,9 +59,12 @@ use Rattle.hs_ports.specs.MemoryDisk.{untold}
 use Rattle.hs_ports.specs.Moments.{disk_at}
 use Rattle.hs_replica.specs.Group.{entries_above, length_of}
 use Rattle.hs_side.specs.Current.{list_in}
+use Rattle.hs_side.specs.declared.header.Header.{Header}
+use Rattle.hs_side.specs.Headers.{own_header}
 use Rattle.hs_taking.proofs.PastLemmas.{past_still, past_then, past_wait}
 use Rattle.hs_taking.specs.Copies.{HasEvened}
 use Rattle.hs_taking.specs.Disks.{DiskSeen, log_at, seen_at, stands_of}
+use Rattle.hs_taking.specs.Headed.{OwnTheirLogs}
 use Rattle.hs_taking.specs.Past.{PastStays}
 use Rattle.hs_taking.specs.Shares.{Span, Taken}
 
@@ -455,6 +464,112 @@ module _ (tells : Type 0) (set : Setting) (span : Span) (cluster : Running) (don
           subst (λ r. OnOk r (CanRead (runs whole_machine (open_whole set opened_found) o.turned.events) cluster.logs span.new)) is
           (o.turned.shows.reads_on told (open_whole set opened_found) core_is (could_read one told (began x is)))
 
+  -- ---- whose header
+
+  shape_is : o.begun.core.members.shape ≡ set.shape
+  shape_is = shape_opens set.shape set.limits (opened_with b.taken) o.opened o.begun.core b.core
+
+  module _ (told : tells) (peer : ℕ) (own : IsOwnAt set.shape span.before span.old peer) where
+    abbrev head : Header
+    head = own_header set.shape peer
+
+    last_own : (seen_at span.old peer).stands.last ≤ span.before
+    last_own = subst (λ (d : Standing). d.last ≤ span.before) (stands_seen span.old peer) own.called
+
+    first_heads : KeepsHeads head span.before o.opened (disk_at (stands_of span.old) peer) (disk_at (stands_of o.disks) peer)
+    first_heads = subst (λ (d : Standing). KeepsHeads head span.before o.opened d (disk_at (stands_of o.disks) peer)) (sym (stands_seen span.old peer))
+        (subst (λ (d : Standing). KeepsHeads head span.before o.opened (seen_at span.old peer).stands d) (sym (stands_seen o.disks peer))
+        (b.headed peer own.within told last_own (subst (λ (d : Standing). LeavesHeader d head) (stands_seen span.old peer) own.leaves)))
+
+    first_headed : IsHeadedAt head o.opened o.begun.logs o.disks peer
+    first_headed = record {
+      called = first_heads.past.last;
+      leaves = first_heads.keeps.standing;
+      log = λ keeping at.
+          let there : log_at b.taken.logs peer ≡ Some keeping = ap (λ l. log_at l peer) (sym b.logs) ∙ at in
+          let under = b.owns.each told peer keeping there in
+          record {
+            generation = under.0;
+            head = under.1;
+            some = record {
+              list = opened_list set opened_found (home_of set.shape peer);
+              waiting = None;
+              has = subst (λ (d : Standing). HasLog keeping d (opened_list set opened_found (home_of set.shape peer)) None) (sym (stands_seen o.disks peer))
+                  (((finds tells set mid b.taken some read b.shares b.count b.ticks).each peer (omega (arith, own.within, b.disks))).log told last_own keeping there);
+            };
+          };
+    }
+
+    heads_opened : LeavesHeads head span.before span.now span.old span.new cluster.logs done peer
+    heads_opened = heads_next head span.before o.opened span.now span.old o.disks span.new cluster.logs done peer
+        (header_shown head span.before o.opened (disk_at (stands_of span.old) peer) (disk_at (stands_of o.disks) peer) first_heads)
+        (subst (λ (s : Shape). IsHeadedAt (own_header s peer) o.opened o.begun.logs o.disks peer → LeavesHeads (own_header s peer) o.opened span.now o.disks span.new cluster.logs done peer) shape_is (o.turned.shows.headed told peer) first_headed)
+
+  -- ---- the logs of the peers, with any number of copies
+
+  abbrev all_found : Finds tells set mid opened_found b.taken.logs
+  all_found = finds tells set mid b.taken some read b.shares b.count b.ticks
+
+  module _ (told : tells) (calls : (peer : ℕ) → (seen_at span.old peer).stands.last ≤ span.before) (c : Whole) (opens : OpensLists set opened_found c) where
+    shape_so : c.core.members.shape ≡ set.shape
+    shape_so = ap (λ (x : Core). x.members.shape) (opens.core ∙ core_is) ∙ shape_is
+
+    good_low : (p : ℕ) → starts_good opened_found p ≡ true → p < set.shape.shards * set.shape.copies
+    good_low p good = elim (cases_lt p (set.shape.shards * set.shape.copies)) [
+      | inl low ↦ low
+      | inr high ↦ absurd (false_is_not (sym (get_or_past opened_found.good p false (let goods = all_found.goods in omega (arith, goods, high))) ∙ good))
+    ]
+
+    slot_good : (p : ℕ) → p < set.shape.shards * set.shape.copies → starts_good opened_found p ≡ true → (keeping : Keeping) × (log_at b.taken.logs p ≡ Some keeping)
+    slot_good p low good = kept_by (log_at b.taken.logs p) (sym (all_found.each p low).good ∙ good)
+
+    log_there : (p : ℕ) → p < set.shape.shards * set.shape.copies → (keeping : Keeping) → log_at b.taken.logs p ≡ Some keeping → HasLog keeping (disk_at (stands_of o.disks) p) (opened_list set opened_found (home_of set.shape p)) None
+    log_there p low keeping at = subst (λ (d : Standing). HasLog keeping d (opened_list set opened_found (home_of set.shape p)) None) (sym (stands_seen o.disks p)) ((all_found.each p low).log told (calls p) keeping at)
+
+    none_there : (p : ℕ) → set.shape.shards * set.shape.copies ≤ p → (seen_at o.disks p).stands ≡ untold
+    none_there p high = ap (λ (d : DiskSeen). d.stands) (get_or_past o.disks p (record { size = λ side. 0; stands = untold; faults = 0 }) (let olds = b.disks in let news = b.left in omega (arith, high, olds, news)))
+
+    called_there : (p : ℕ) → (disk_at (stands_of o.disks) p).last ≤ o.opened
+    called_there p = elim (cases_lt p (set.shape.shards * set.shape.copies)) [
+      | inl low ↦ subst (λ (d : Standing). d.last ≤ o.opened) (sym (stands_seen o.disks p)) ((all_found.each p low).past told (calls p)).last
+      | inr high ↦ subst (λ (d : Standing). d.last ≤ o.opened) (sym (stands_seen o.disks p ∙ none_there p high)) (omega arith)
+    ]
+
+    peers_kept : KeepsPeers c o.begun.logs o.disks o.opened
+    peers_kept = record {
+      listed = record {
+        each = λ p list is at.
+            let low : p < set.shape.shards * set.shape.copies = subst (λ (s : Shape). IsPeer s p) shape_so is in
+            let s = slot_good p low (opens.good p list low at) in
+            let under = b.owns.each told p s.0 s.1 in
+            record {
+              keeping = s.0;
+              used = ap (λ l. log_at l p) b.logs ∙ s.1;
+              generation = under.0;
+              head = subst (λ (h : Shape). s.0.log.head ≡ Some (own_header h p, under.0)) (sym shape_so) under.1;
+              has = subst (λ w. HasLog s.0 (disk_at (stands_of o.disks) p) list w) (sym (opens.none p list low at))
+                  (subst (λ (l : Numbered). HasLog s.0 (disk_at (stands_of o.disks) p) l None) (sym (opens.listed p list low at)) (log_there p low s.0 s.1));
+            };
+      };
+      keeps = record {
+        called = called_there;
+        fine = λ p is image stands.
+            let low = good_low p (opens.counted p is) in
+            let s = slot_good p low (opens.counted p is) in
+            record {
+              list = opened_list set opened_found (home_of set.shape p);
+              read = (log_there p low s.0 s.1).leaves image (record { sides = stands.sides });
+              front = opens.front p is;
+              long = opens.long p is;
+            };
+      };
+      headed = λ p is.
+          let low = good_low p (opens.counted p is) in
+          let s = slot_good p low (opens.counted p is) in
+          let under = b.owns.each told p s.0 s.1 in
+          subst (λ (h : Shape). LeavesHeader (disk_at (stands_of o.disks) p) (own_header h p)) (sym shape_so) ((log_there p low s.0 s.1).headed (own_header set.shape p, under.0) under.1);
+    }
+
   -- what was found is told of the core over what was taken
   pub opens_found : Opens tells set span cluster done
   opens_found = record {
@@ -485,6 +600,9 @@ module _ (tells : Type 0) (set : Setting) (span : Span) (cluster : Running) (don
         subst (λ x. AreAllCounted x o.turned.events o.disks span.new) (sym core_is)
         (o.turned.shows.read told (open_whole set opened_found) core_is (could_read one told going) stored);
     reads_on = reads_on;
+    owns = subst (λ l. OwnTheirLogs tells set.shape (log_at l)) (sym b.logs) b.owns;
+    headed = heads_opened;
+    peers = peers_kept;
     begins = sym core_is;
     copies = λ told. o.turned.shows.copies told;
   }

@@ -3,20 +3,22 @@ use Rattle.std.proofs.Common.{◌≡◌, ◌≢◌, ◌∙◌, inl, inr, sym, su
 use Rattle.std.proofs.lemmas.Bool.{cases_eq, cases_lt}
 use Rattle.std.proofs.lemmas.List.{get_or-set_same, get_or-set_other}
 use Rattle.std.specs.Option.{option_map}
-use Rattle.std.specs.Prelude.{OnOk, Result, Ok, Err, slice_index_or, slice_set}
+use Rattle.std.specs.Prelude.{OnOk, Result, Ok, Err, slice_index_or, slice_set, ⊤}
 use Rattle.hs_cluster.proofs.DiskLemmas.{stands_at, stands_other, stands_set}
 use Rattle.hs_cluster.proofs.JobLemmas.{Since, none_waits, told_waits}
+use Rattle.hs_cluster.specs.declared.fault.ClusterFault.{ClusterFault}
 use Rattle.hs_cluster.specs.Disks.{DiskSeen, log_at, stands_of}
-use Rattle.hs_cluster.specs.Headed.{HasHeaded, IsHeaded, IsHeadedAt, KeepsHeads, LeavesHeaded, StaysHeaded, StaysHeadedAt}
+use Rattle.hs_cluster.specs.Headed.{HasHeaded, IsHeaded, IsHeadedAt, KeepsHeads, LeavesHeaded, LeavesHeads, LeavesItsHeader, StaysHeaded, StaysHeadedAt}
 use Rattle.hs_entry.specs.declared.entry.Entry.{Entry}
 use Rattle.hs_entry.specs.declared.rank.Rank.{Rank}
 use Rattle.hs_fold.specs.Shards.Setting.{Numbered}
-use Rattle.hs_peerlog.specs.Heads.{KeepsHeader, LeavesHeader}
+use Rattle.hs_peerlog.specs.Heads.{KeepsHeader}
 use Rattle.hs_peerlog.specs.Lists.{HasLog, Keeping, with_waiting}
 use Rattle.hs_ports.specs.Disk.{IsImage, Standing}
 use Rattle.hs_ports.specs.Moments.{disk_at}
 use Rattle.hs_side.specs.declared.header.Header.{Header}
-use Rattle.hs_taking.proofs.PastLemmas.{past_still, past_then}
+use Rattle.hs_taking.proofs.HeadLemmas.{heads_still, heads_then}
+use Rattle.hs_taking.proofs.PastLemmas.{past_still, past_then, past_wait}
 use Rattle.hs_taking.specs.Past.{PastStays}
 
 none_is_not : {A : Type 0} (x : A) → None ≡ Some x → ⊥
@@ -27,31 +29,6 @@ none_there x e = absurd (none_is_not x e)
 
 some_is : {A : Type 0} (x y : A) → Some x ≡ Some y → x ≡ y
 some_is x y e = cc
-
--- ---- a disk
-
--- nothing was called
-pub heads_still : (header : Header) (before now : ℕ) (disk : Standing) → before ≤ now → disk.last ≤ before → Since disk → LeavesHeader disk header → KeepsHeads header before now disk disk
-heads_still header before now disk up last since leaves = record {
-  past = past_still before now disk up last;
-  keeps = record {
-    each = λ m high fits image left. leaves image (record { sides = λ side. subst (λ l. IsImage l (image side)) (since side m (omega (arith, last, high))) (left side) });
-    standing = leaves;
-  };
-}
-
--- some calls, and then some
-pub heads_then : (header : Header) (before mid now : ℕ) (a b c : Standing) → KeepsHeads header before mid a b → KeepsHeads header mid now b c → KeepsHeads header before now a c
-heads_then header before mid now a b c one two = record {
-  past = past_then before mid now a b c one.past two.past;
-  keeps = record {
-    each = λ m high fits image left. elim (cases_lt mid m) [
-      | inl above ↦ two.keeps.each m above fits image left
-      | inr low ↦ one.keeps.each m high fits image (λ side. subst (λ l. IsImage l (image side)) (two.past.earlier side m low fits) (left side))
-    ];
-    standing = two.keeps.standing;
-  };
-}
 
 -- ---- with its log
 
@@ -178,3 +155,69 @@ pub heads_on : (header : Header) (before mid now : ℕ) (between after : List (O
     → (IsHeadedAt header mid between middle peer → StaysHeadedAt header mid now middle after left peer) → StaysHeadedAt header before now disks after left peer
 heads_on header before mid now between after disks middle left peer one next =
     headed_then header before mid now (disk_at (stands_of disks) peer) (disk_at (stands_of middle) peer) (disk_at (stands_of left) peer) (log_at between peer) (log_at after peer) one next
+
+-- ---- what some calls show of a disk
+
+-- time went on
+pub header_wait : (header : Header) (before mid now : ℕ) (a b : Standing) → mid ≤ now → Since b → LeavesItsHeader header before mid a b → LeavesItsHeader header before now a b
+header_wait header before mid now a b up since leaves = record {
+  past = past_wait before mid now a b up leaves.past;
+  each = λ m low high fits image here. elim (cases_lt mid m) [
+    | inl above ↦ leaves.leaves image (record { sides = λ side. subst (λ l. IsImage l (image side)) (since side m (let last = leaves.past.last in omega (arith, last, above))) (here side) })
+    | inr le ↦ leaves.each m low le fits image here
+  ];
+  leaves = leaves.leaves;
+}
+
+-- some calls, and then some
+pub header_next : (header : Header) (before mid now : ℕ) (a b c : Standing) → LeavesItsHeader header before mid a b → LeavesItsHeader header mid now b c → LeavesItsHeader header before now a c
+header_next header before mid now a b c one two = record {
+  past = past_then before mid now a b c one.past two.past;
+  each = λ m low high fits image here. elim (cases_lt mid m) [
+    | inl above ↦ two.each m above high fits image here
+    | inr up ↦ one.each m low up fits image (λ side. subst (λ l. IsImage l (image side)) (two.past.earlier side m up fits) (here side))
+  ];
+  leaves = two.leaves;
+}
+
+-- calls that keep it do
+pub header_shown : (header : Header) (before now : ℕ) (a b : Standing) → KeepsHeads header before now a b → LeavesItsHeader header before now a b
+header_shown header before now a b keeps = record { past = keeps.past; each = λ m low high fits image here. keeps.keeps.each m low fits image here; leaves = keeps.keeps.standing }
+
+on_ok : {T E P : Type 0} (r : Result T E) → P → OnOk r P
+on_ok (Ok x) p = p
+on_ok (Err e) p = tt
+
+-- nothing was called
+pub heads_quiet : (header : Header) (now : ℕ) (logs fewer : List (Option Keeping)) (disks : List DiskSeen) (r : Result ⊤ ClusterFault) (peer : ℕ) → ((keeping : Keeping) → log_at fewer peer ≡ Some keeping → log_at logs peer ≡ Some keeping)
+    → IsHeadedAt header now logs disks peer → LeavesHeads header now now disks disks fewer r peer
+heads_quiet header now logs fewer disks r peer less headed = record {
+  disk = record {
+    past = past_still now now (disk_at (stands_of disks) peer) (omega arith) headed.called;
+    each = λ m low high fits image left. absurd (omega (arith, low, high));
+    leaves = headed.leaves;
+  };
+  log = on_ok r (λ keeping at. headed.log keeping (less keeping at));
+}
+
+-- it was given up
+pub heads_cut : (header : Header) (before now : ℕ) (disks left : List DiskSeen) (logs after : List (Option Keeping)) (r : Result ⊤ ClusterFault) (fault : ClusterFault) (peer : ℕ) → LeavesHeads header before now disks left logs r peer → LeavesHeads header before now disks left after (Err fault) peer
+heads_cut header before now disks left logs after r fault peer leaves = record { disk = leaves.disk; log = tt }
+
+-- a job was done
+pub heads_shown : (header : Header) (before now : ℕ) (disks left : List DiskSeen) (after logs : List (Option Keeping)) (r : Result ⊤ ClusterFault) (peer : ℕ) → logs ≡ after → StaysHeadedAt header before now disks after left peer → LeavesHeads header before now disks left logs r peer
+heads_shown header before now disks left after logs r peer kept stays = record {
+  disk = header_shown header before now (disk_at (stands_of disks) peer) (disk_at (stands_of left) peer) stays.disk;
+  log = on_ok r (λ keeping at. stays.log keeping (subst (λ l. log_at l peer ≡ Some keeping) kept at));
+}
+
+-- behind calls that came to their end it is so again
+pub heads_behind : (header : Header) (before now : ℕ) (disks left : List DiskSeen) (logs : List (Option Keeping)) (peer : ℕ) → LeavesHeads header before now disks left logs (Ok tt) peer → IsHeadedAt header now logs left peer
+heads_behind header before now disks left logs peer leaves = record { called = leaves.disk.past.last; leaves = leaves.disk.leaves; log = leaves.log }
+
+pub heads_next : (header : Header) (before mid now : ℕ) (disks between left : List DiskSeen) (logs : List (Option Keeping)) (r : Result ⊤ ClusterFault) (peer : ℕ) → LeavesItsHeader header before mid (disk_at (stands_of disks) peer) (disk_at (stands_of between) peer)
+    → LeavesHeads header mid now between left logs r peer → LeavesHeads header before now disks left logs r peer
+heads_next header before mid now disks between left logs r peer one two = record {
+  disk = header_next header before mid now (disk_at (stands_of disks) peer) (disk_at (stands_of between) peer) (disk_at (stands_of left) peer) one two.disk;
+  log = two.log;
+}

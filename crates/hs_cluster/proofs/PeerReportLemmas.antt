@@ -405,7 +405,7 @@ module _ (c : Whole) (w : Working) (steady : IsSteady c) (is : IsPeer c.core.mem
     new = step_whole (event.Report w.peer told) at c
 
     module _ (was : c.core.ended ≡ None) (goes : GoesAlong c (event.Report w.peer told) new)
-        (heads : first_job w.peer c.core ≢ Some job.Reset → (header : Header) → IsHeadedAt header w.before w.logs w.disks w.peer → StaysHeadedAt header w.before w.now w.disks w.after w.left w.peer) where
+        (heads : IsHeadedAt head w.before w.logs w.disks w.peer → StaysHeadedAt head w.before w.now w.disks w.after w.left w.peer) where
       taken : taken_report c.core (event.Report w.peer told) ≡ Some (w.peer, told)
       taken = ap (λ b. if b then Some (w.peer, told) else None) answer
 
@@ -438,8 +438,8 @@ module _ (c : Whole) (w : Working) (steady : IsSteady c) (is : IsPeer c.core.mem
       -- ---- of the peer itself
 
       -- a log that was in use before, with its header
-      headed_by : {list : Numbered} {waiting : Option Entry} → HasPeerLog c.core.members.shape w.logs w.disks w.peer list waiting → first_job w.peer c.core ≢ Some job.Reset → StaysHeadedAt head w.before w.now w.disks w.after w.left w.peer
-      headed_by {list = list} {waiting = waiting} log other = heads other head (record {
+      headed_by : {list : Numbered} {waiting : Option Entry} → HasPeerLog c.core.members.shape w.logs w.disks w.peer list waiting → StaysHeadedAt head w.before w.now w.disks w.after w.left w.peer
+      headed_by {list = list} {waiting = waiting} log = heads (record {
         called = keeps.keeps.called w.peer;
         leaves = log_headed c.core.members.shape w.logs w.disks w.peer list waiting log;
         log = λ keeping here. subst (λ k. HasHeaded head k (disk_at (stands_of w.disks) w.peer)) (some_is log.keeping keeping (sym log.used ∙ here))
@@ -457,15 +457,15 @@ module _ (c : Whole) (w : Working) (steady : IsSteady c) (is : IsPeer c.core.mem
         has = subst (λ l. HasLog keeping (disk_at (stands_of w.left) w.peer) l waiting) (sym same) (subst (λ e. HasLog keeping (disk_at (stands_of w.left) w.peer) have e) (sym entry) has);
       }
 
-      own_head : {list : Numbered} {waiting : Option Entry} → HasPeerLog c.core.members.shape w.logs w.disks w.peer list waiting → first_job w.peer c.core ≢ Some job.Reset → (keeping : Keeping) → log_at w.after w.peer ≡ Some keeping
+      own_head : {list : Numbered} {waiting : Option Entry} → HasPeerLog c.core.members.shape w.logs w.disks w.peer list waiting → (keeping : Keeping) → log_at w.after w.peer ≡ Some keeping
           → (generation : ℕ) × (keeping.log.head ≡ Some (head, generation))
-      own_head log other keeping used = let h = (headed_by log other).log keeping used in (h.generation, h.head)
+      own_head log keeping used = let h = (headed_by log).log keeping used in (h.generation, h.head)
 
       abbrev There : Numbered → Type 0
       There list = HasPeerLog c.core.members.shape w.after w.left w.peer list (appended_of w.peer new.core)
 
-      own_there : (j : Job) → is_own (Some j) ≡ true → first_job w.peer c.core ≡ Some j → (first_job w.peer c.core ≢ Some job.Reset) → IsNextOwn c w.peer j → (list : Numbered) → log_of_peer new w.peer ≡ Some list → There list
-      own_there j is_one first other next list there = go (failed_disk told) refl (own_leaves {E = E} j next (Ok told) works is_one first).log
+      own_there : (j : Job) → is_own (Some j) ≡ true → first_job w.peer c.core ≡ Some j → IsNextOwn c w.peer j → (list : Numbered) → log_of_peer new w.peer ≡ Some list → There list
+      own_there j is_one first next list there = go (failed_disk told) refl (own_leaves {E = E} j next (Ok told) works is_one first).log
         where
           answers_it : answers w.peer j told ≡ true
           answers_it = answer_of c.core w.peer j told first answer
@@ -473,7 +473,7 @@ module _ (c : Whole) (w : Working) (steady : IsSteady c) (is : IsPeer c.core.mem
           go : (o : Option ℕ) → failed_disk told ≡ o → LeavesLog o (try_of w) j front waits → There list
           go None fine log =
               let same = own_told c w.peer j told list (appended_of w.peer new.core) within (kept_own j next) first answers_it fine next ((goes.told w.peer told taken).log list there) in
-              has_done log.0 (list_after j front waits) list (waiting_after j waits) (appended_of w.peer new.core) log.1 log.2 same.0 same.1 (own_head (log_own j next) other log.0 log.1)
+              has_done log.0 (list_after j front waits) list (waiting_after j waits) (appended_of w.peer new.core) log.1 log.2 same.0 same.1 (own_head (log_own j next) log.0 log.1)
           go (Some disk) fails log = absurd (not_failed w.peer disk list there fails (own_fails w.peer j told disk is_one answers_it fails))
 
       reset_there : first_job w.peer c.core ≡ Some job.Reset → (list : Numbered) → log_of_peer new w.peer ≡ Some list → There list
@@ -491,8 +491,8 @@ module _ (c : Whole) (w : Working) (steady : IsSteady c) (is : IsPeer c.core.mem
               has_done log.0 [] list None (appended_of w.peer new.core) log.1 log.2 same.0 same.1 (empties.own log.0 log.1)
           go (Some disk) fails log = absurd (not_failed w.peer disk list there fails (reset_fails w.peer told disk answers_it fails))
 
-      copy_there : (from number : ℕ) → first_job w.peer c.core ≡ Some (job.Copy from number) → (first_job w.peer c.core ≢ Some job.Reset) → IsNextCopy c w.peer from number → (list : Numbered) → log_of_peer new w.peer ≡ Some list → There list
-      copy_there from number first other next list there = go (failed_disk told) refl (copies {E = E} from number next (Ok told) works first).log
+      copy_there : (from number : ℕ) → first_job w.peer c.core ≡ Some (job.Copy from number) → IsNextCopy c w.peer from number → (list : Numbered) → log_of_peer new w.peer ≡ Some list → There list
+      copy_there from number first next list there = go (failed_disk told) refl (copies {E = E} from number next (Ok told) works first).log
         where
           answers_it : answers w.peer (job.Copy from number) told ≡ true
           answers_it = answer_of c.core w.peer (job.Copy from number) told first answer
@@ -500,7 +500,7 @@ module _ (c : Whole) (w : Working) (steady : IsSteady c) (is : IsPeer c.core.mem
           go : (o : Option ℕ) → failed_disk told ≡ o → LeavesCopy o (try_of w) w.peer from number (sealed_front c from) (c.lists w.peer) → There list
           go None fine log =
               let same = copied_told c w.peer from number told list (appended_of w.peer new.core) answers_it fine ((goes.told w.peer told taken).log list there) in
-              has_done log.0 log.1 list None (appended_of w.peer new.core) log.2 log.4 (same.0 ∙ sym (with_copy_is from number next log.1 log.3)) same.1 (own_head (log_follows from number next) other log.0 log.2)
+              has_done log.0 log.1 list None (appended_of w.peer new.core) log.2 log.4 (same.0 ∙ sym (with_copy_is from number next log.1 log.3)) same.1 (own_head (log_follows from number next) log.0 log.2)
           go (Some disk) fails log = elim log [
             | inl lead ↦
                 let same = failed_told c w.peer disk told list (appended_of w.peer new.core) fails ((goes.told w.peer told taken).log list there) in
@@ -509,18 +509,15 @@ module _ (c : Whole) (w : Working) (steady : IsSteady c) (is : IsPeer c.core.mem
             | inr own ↦ absurd (not_failed w.peer disk list there fails own.0)
           ]
 
-      is_other : (j : Job) → first_job w.peer c.core ≡ Some j → is_reset j ≡ false → first_job w.peer c.core ≢ Some job.Reset
-      is_other j first other reset = false_is_not (sym other ∙ ap is_reset (some_is j job.Reset (sym first ∙ reset)))
-
       this_log : (list : Numbered) → log_of_peer new w.peer ≡ Some list → There list
       this_log list there = go (first_job w.peer c.core) refl
         where
           by : (j : Job) → first_job w.peer c.core ≡ Some j → AsksFor c w.peer j → There list
-          by (job.Append number entry) first next = own_there (job.Append number entry) refl first (is_other (job.Append number entry) first refl) next list there
-          by (job.Seal number) first next = own_there (job.Seal number) refl first (is_other (job.Seal number) first refl) next list there
-          by (job.Read number) first next = own_there (job.Read number) refl first (is_other (job.Read number) first refl) next list there
+          by (job.Append number entry) first next = own_there (job.Append number entry) refl first next list there
+          by (job.Seal number) first next = own_there (job.Seal number) refl first next list there
+          by (job.Read number) first next = own_there (job.Read number) refl first next list there
           by job.Reset first next = reset_there first list there
-          by (job.Copy from number) first next = copy_there from number first (is_other (job.Copy from number) first refl) next list there
+          by (job.Copy from number) first next = copy_there from number first next list there
           by job.Reclaim first next = absurd next
 
           go : (todo : Option Job) → first_job w.peer c.core ≡ todo → There list
@@ -561,11 +558,11 @@ module _ (c : Whole) (w : Working) (steady : IsSteady c) (is : IsPeer c.core.mem
       gone_headed counted = go (first_job w.peer c.core) refl
         where
           by : (j : Job) → first_job w.peer c.core ≡ Some j → AsksFor c w.peer j → LeavesHeader (disk_at (stands_of w.left) w.peer) head
-          by (job.Append number entry) first next = (headed_by (log_own (job.Append number entry) next) (is_other (job.Append number entry) first refl)).disk.keeps.standing
-          by (job.Seal number) first next = (headed_by (log_own (job.Seal number) next) (is_other (job.Seal number) first refl)).disk.keeps.standing
-          by (job.Read number) first next = (headed_by (log_own (job.Read number) next) (is_other (job.Read number) first refl)).disk.keeps.standing
-          by job.Reset first next = ((works.empties first (keeps.keeps.called w.peer)).headed (λ n. take n (reach c w.peer)) (any_front counted) (keeps.headed w.peer counted)).standing
-          by (job.Copy from number) first next = (headed_by (log_follows from number next) (is_other (job.Copy from number) first refl)).disk.keeps.standing
+          by (job.Append number entry) first next = (headed_by (log_own (job.Append number entry) next)).disk.keeps.standing
+          by (job.Seal number) first next = (headed_by (log_own (job.Seal number) next)).disk.keeps.standing
+          by (job.Read number) first next = (headed_by (log_own (job.Read number) next)).disk.keeps.standing
+          by job.Reset first next = ((works.empties first (keeps.keeps.called w.peer)).headed (keeps.headed w.peer counted)).standing
+          by (job.Copy from number) first next = (headed_by (log_follows from number next)).disk.keeps.standing
           by job.Reclaim first next = absurd next
 
           go : (todo : Option Job) → first_job w.peer c.core ≡ todo → LeavesHeader (disk_at (stands_of w.left) w.peer) head

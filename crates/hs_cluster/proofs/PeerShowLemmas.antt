@@ -1,5 +1,5 @@
 -- What events show of the disks of any number of copies: one event, and one run of them behind another.
-use Rattle.std.proofs.Common.{◌≡◌, ◌≢◌, ◌∙◌, ap, sym, subst, ℕ, Bool, true, false, List, [], ◌∷◌, ◌++◌, Option, Some, None, refl, arith}
+use Rattle.std.proofs.Common.{◌≡◌, ◌∙◌, ap, sym, subst, ℕ, Bool, true, false, List, [], ◌∷◌, ◌++◌, Option, Some, None, refl, arith}
 use Rattle.std.specs.Prelude.{OnOk, Result, Ok, Err, ⊤, if◌then◌else◌}
 use Rattle.hs_cluster.proofs.EventLemmas.{still_going}
 use Rattle.hs_cluster.proofs.PeerEventLemmas.{SlotStays, quiet_fine, quiet_peers}
@@ -22,7 +22,6 @@ use Rattle.hs_core_words.specs.State.{Core}
 use Rattle.hs_core_words.specs.Step.{step}
 use Rattle.hs_desk.specs.declared.done.Done.{Done}
 use Rattle.hs_desk.specs.declared.fault.CoreFault.{CoreFault}
-use Rattle.hs_desk.specs.declared.job.Job.TheVariants as job
 use Rattle.hs_events.specs.Asked.{report_in}
 use Rattle.hs_events.specs.Course.{happened, is_refused, steps}
 use Rattle.hs_events.specs.Due.{Events, MomentsRise, is_answer}
@@ -34,7 +33,6 @@ use Rattle.hs_moments.specs.Moments.{EachImageOfOne, GivesFine, Grows, Keeps, Si
 use Rattle.hs_moments.specs.WholeMachine.{whole_machine}
 use Rattle.hs_peerlog.specs.Lists.{Keeping}
 use Rattle.hs_ports.specs.declared.disk.Side.{Side}
-use Rattle.hs_side.specs.declared.header.Header.{Header}
 use Rattle.hs_side.specs.Headers.{own_header}
 
 -- ---- along events
@@ -161,7 +159,7 @@ job_cut_lists before now peer old new after disks left {E = E} result is was sin
 pub job_lists : (before now peer : ℕ) (old new : Running) (after : List (Option Keeping)) (disks left : List DiskSeen) (E : Type 0) (done : Done) (r : Result ⊤ ClusterFault) → IsPeer old.core.members.shape peer → old.core.ended ≡ None
     → is_answer old.core peer done ≡ true → Since (stands_of disks)
     → Works {E = E} (own_header old.core.members.shape peer) (record { peer = peer; before = before; now = now; logs = old.logs; after = after; disks = disks; left = left }) (first_job peer old.core) (Ok done)
-    → (first_job peer old.core ≢ Some job.Reset → (header : Header) → IsHeadedAt header before old.logs disks peer → StaysHeadedAt header before now disks after left peer)
+    → (IsHeadedAt (own_header old.core.members.shape peer) before old.logs disks peer → StaysHeadedAt (own_header old.core.members.shape peer) before now disks after left peer)
     → new.logs ≡ after → Does (done_of r (event.Report peer done, now)) old new r → TellsBytes done
     → ShowsLists (record { before = before; now = now; old = old; new = new; disks = disks; left = left }) r (done_of r (event.Report peer done, now))
 job_lists before now peer old new after disks left E done r is was answer since works heads kept does bytes = record {
@@ -197,8 +195,8 @@ job_lists before now peer old new after disks left E done r is was answer since 
     answers : (c : Whole) → c.core ≡ old.core → is_answer c.core peer done ≡ true
     answers c core = subst (λ x. is_answer x peer done ≡ true) (sym core) answer
 
-    heads_in : (c : Whole) → c.core ≡ old.core → first_job peer c.core ≢ Some job.Reset → (header : Header) → IsHeadedAt header before old.logs disks peer → StaysHeadedAt header before now disks after left peer
-    heads_in c core other = heads (λ reset. other (ap (λ x. first_job peer x) core ∙ reset))
+    heads_in : (c : Whole) → c.core ≡ old.core → IsHeadedAt (own_header c.core.members.shape peer) before old.logs disks peer → StaysHeadedAt (own_header c.core.members.shape peer) before now disks after left peer
+    heads_in c core = subst (λ (x : Core). IsHeadedAt (own_header x.members.shape peer) before old.logs disks peer → StaysHeadedAt (own_header x.members.shape peer) before now disks after left peer) (sym core) heads
 
     called : (c : Whole) → c.core ≡ old.core → IsSteady c → KeepsPeers c old.logs disks before → EachImageOfOne before now peer (stands_of disks) (stands_of left) (λ image. counts c peer ≡ true → GivesFine whole_machine c peer image)
     called c core steady can = call_peers c w steady (low c core) can (Ok done) (works_in c core)

@@ -6,13 +6,16 @@ use Rattle.std.specs.List.{AllPairs}
 use Rattle.std.specs.Prelude.{◌==◌, ⊤, Contains, OnOk, Result, Ok, Err, cond, count_by, if◌then◌else◌, slice_index_or}
 use Rattle.hs_cluster.proofs.CountLemmas.{all_then, counted_before, counted_then, rose_none, rose_then}
 use Rattle.hs_cluster.proofs.GoingOnLemmas.{going_before}
+use Rattle.hs_cluster.proofs.HeadLemmas.{header_wait, heads_behind, heads_next}
+use Rattle.hs_cluster.proofs.OpenedLemmas.{opens_so}
 use Rattle.hs_cluster.proofs.PastLemmas.{leaves_then}
 use Rattle.hs_cluster.proofs.RoomLemmas.{rooms_then}
-use Rattle.hs_cluster.proofs.StretchLemmas.{lists_then, rises_to, runs_append, runs_core, stored_back, stored_front, told_then}
+use Rattle.hs_cluster.proofs.StretchLemmas.{lists_then, rises_to, runs_append, runs_core, steps_shape, stored_back, stored_front, told_then}
 use Rattle.hs_cluster.proofs.TurnedLemmas.{not_ended}
 use Rattle.hs_cluster.specs.Calm.{GoesCalmly}
 use Rattle.hs_cluster.specs.declared.fault.ClusterFault.{ClusterFault}
 use Rattle.hs_cluster.specs.Disks.{DiskSeen, seen_at, stands_of}
+use Rattle.hs_cluster.specs.Headed.{IsHeadedAt, IsOwnAt, LeavesHeads}
 use Rattle.hs_cluster.specs.Kept.{AreStored, CanGoOn, CanRead, LeavesLists, Shows, Span}
 use Rattle.hs_cluster.specs.Opens.{LeaveOneList, Opens}
 use Rattle.hs_cluster.specs.Past.{HoldsLog, LeavesPast}
@@ -22,11 +25,12 @@ use Rattle.hs_cluster.specs.RunsOn.{CanRunOn, RunsOn}
 use Rattle.hs_core_words.specs.State.{Core}
 use Rattle.hs_events.specs.Course.{happened, steps}
 use Rattle.hs_events.specs.Due.{Events, MomentsRise}
-use Rattle.hs_events.specs.Found.{Found, first_core}
+use Rattle.hs_events.specs.Found.{Found, first_core, opens_with}
 use Rattle.hs_events.specs.Reports.{failures}
 use Rattle.hs_events.specs.Whole.{Whole, counts, open_whole}
 use Rattle.hs_fold.specs.Images.{IsLeft}
 use Rattle.hs_fold.specs.Shards.Setting.{Setting}
+use Rattle.hs_limits.specs.declared.shape.Shape.{Shape}
 use Rattle.hs_moments.proofs.HappenedLemmas.{happened_rise}
 use Rattle.hs_moments.proofs.MomentLemmas.{later-keeps, lt-is}
 use Rattle.hs_moments.specs.Machine.{runs, state_at, until}
@@ -37,6 +41,7 @@ use Rattle.hs_ports.specs.Disk.{IsImage}
 use Rattle.hs_ports.specs.Fault.{HasRisen}
 use Rattle.hs_ports.specs.Moments.{disk_at}
 use Rattle.hs_ports.specs.Objects.{RoseBy}
+use Rattle.hs_side.specs.Headers.{own_header}
 use Rattle.hs_taking.proofs.PastLemmas.{past_wait}
 use Rattle.hs_taking.specs.Shares.{IsLater, Span as Taking}
 
@@ -57,13 +62,14 @@ runs_opened tells set s cluster done o = record {
   rooms = o.rooms;
   still = o.still;
   past = λ one told peer last. (o.past one told peer last).stays;
+  headed = λ told peer own. (o.headed told peer own).disk;
   lists = o.lists;
   told = o.told;
   read = o.read;
 }
 
 pub can_opened : (tells : Type 0) (set : Setting) (s : Taking) (cluster : Running) (done : Result ⊤ ClusterFault) (o : Opens tells set s cluster done) → OnOk done (CanRunOn tells set (opening_span s o.begun cluster) o.found o.events)
-can_opened tells set s cluster (Ok x) o = record { calm = o.calm; holds = λ one told peer last. (o.past one told peer last).holds; goes = λ one told sound. o.goes_on one told sound; reads = λ one told. o.reads_on one told }
+can_opened tells set s cluster (Ok tt) o = record { calm = o.calm; holds = λ one told peer last. (o.past one told peer last).holds; owns = λ told peer own. heads_behind (own_header set.shape peer) s.before s.now s.old s.new cluster.logs peer (o.headed told peer own); goes = λ one told sound. o.goes_on one told sound; reads = λ one told. o.reads_on one told }
 can_opened tells set s cluster (Err fault) o = tt
 
 -- ---- the events of a line
@@ -89,6 +95,9 @@ module _ (tells : Type 0) (set : Setting) (found : Found) (before mid now : ℕ)
   goes : (steps c.core es).ended ≡ None
   goes = ap (λ (x : Core). x.ended) (sym core) ∙ going
 
+  shape_is : here.core.members.shape ≡ set.shape
+  shape_is = ap (λ (x : Core). x.members.shape) core ∙ steps_shape es (first_core set found) ∙ (opens_so set.shape set.limits (opens_with set found) found.opened).shape
+
   rise : MomentsRise before es mid
   rise = rises_from before found.opened mid es so_far.finds.later rises
 
@@ -98,6 +107,10 @@ module _ (tells : Type 0) (set : Setting) (found : Found) (before mid now : ℕ)
 
   past : set.shape.copies ≡ 1 → tells → (peer : ℕ) → (disk_at (stands_of disks) peer).last ≤ before → LeavesPast before now disks left new.logs r peer
   past one told peer last = leaves_then before mid now disks between left new.logs r peer (so_far.past one told peer last) (shows.past told disks (can.calm one) peer (can.holds one told peer last))
+
+  heads : tells → (peer : ℕ) → IsOwnAt set.shape before disks peer → LeavesHeads (own_header set.shape peer) before now disks left new.logs r peer
+  heads told peer own = heads_next (own_header set.shape peer) before mid now disks between left new.logs r peer (so_far.headed told peer own)
+      (subst (λ (s : Shape). IsHeadedAt (own_header s peer) mid here.logs between peer → LeavesHeads (own_header s peer) mid now between left new.logs r peer) shape_is (shows.headed told peer) (can.owns told peer own))
 
   pub runs_more : RunsOn tells set (record { before = before; now = now; old = begun; new = new; disks = disks; left = left }) found (es ++ fs)
   runs_more = record {
@@ -109,6 +122,7 @@ module _ (tells : Type 0) (set : Setting) (found : Found) (before mid now : ℕ)
     counted = counted_then (first_core set found) here.core es fs so_far.disks between left core so_far.counted shows.counted;
     still = λ ended. absurd (not_ended (first_core set found).ended (going_before (first_core set found) es goes) ended);
     past = λ one told peer last. (past one told peer last).stays;
+    headed = λ told peer own. (heads told peer own).disk;
     rooms = rooms_then (first_core set found) es fs so_far.rooms (subst (λ x. HaveRecordRoom x fs) core rooms);
     lists = lists;
     told = λ one told first. told_then c es fs (so_far.told one told first) (shows.told told behind behind_core (can.reads one told));
@@ -119,16 +133,18 @@ module _ (tells : Type 0) (set : Setting) (found : Found) (before mid now : ℕ)
 
   pub can_more : OnOk r (CanRunOn tells set (record { before = before; now = now; old = begun; new = new; disks = disks; left = left }) found (es ++ fs))
   can_more =
-      by r (λ one. shows.calm disks (can.calm one)) (λ one told peer last. (past one told peer last).holds) (λ one told sound. shows.goes_on told behind behind_core (can.goes one told sound))
+      by r (λ one. shows.calm disks (can.calm one)) (λ one told peer last. (past one told peer last).holds) heads (λ one told sound. shows.goes_on told behind behind_core (can.goes one told sound))
       (λ one told. shows.reads_on told behind behind_core (can.reads one told))
     where
       by : (r : Result ⊤ ClusterFault) → (set.shape.copies ≡ 1 → OnOk r (GoesCalmly new.core disks left)) → (set.shape.copies ≡ 1 → tells → (peer : ℕ) → (disk_at (stands_of disks) peer).last ≤ before → OnOk r (HoldsLog now new.logs left peer))
+          → (tells → (peer : ℕ) → IsOwnAt set.shape before disks peer → LeavesHeads (own_header set.shape peer) before now disks left new.logs r peer)
           → (set.shape.copies ≡ 1 → tells → LeaveOneList before disks → OnOk r (CanGoOn (runs whole_machine behind fs) new.logs left now)) → (set.shape.copies ≡ 1 → tells → OnOk r (CanRead (runs whole_machine behind fs) new.logs left))
           → OnOk r (CanRunOn tells set (record { before = before; now = now; old = begun; new = new; disks = disks; left = left }) found (es ++ fs))
-      by (Err fault) calm holds h g = tt
-      by (Ok x) calm holds h g = record {
+      by (Err fault) calm holds own h g = tt
+      by (Ok tt) calm holds own h g = record {
         calm = calm;
         holds = holds;
+        owns = λ told peer is. heads_behind (own_header set.shape peer) before now disks left new.logs peer (own told peer is);
         goes = λ one told sound. subst (λ s. CanGoOn s new.logs left now) (sym (runs_append c es fs)) (h one told sound);
         reads = λ one told. subst (λ s. CanRead s new.logs left) (sym (runs_append c es fs)) (g one told);
       }
@@ -176,6 +192,7 @@ runs_later tells set found before now later begun cluster disks left es ticks ri
   rooms = so_far.rooms;
   still = so_far.still;
   past = λ one told peer last. past_wait before now later (disk_at (stands_of disks) peer) (disk_at (stands_of left) peer) ticks (so_far.past one told peer last);
+  headed = λ told peer own. header_wait (own_header set.shape peer) before now later (disk_at (stands_of disks) peer) (disk_at (stands_of left) peer) ticks (since told peer) (so_far.headed told peer own);
   lists = λ one told sound first. lists_later (open_whole set found) es before now later begun cluster disks left ticks (rises_from before found.opened now es so_far.finds.later rises) (since told) (so_far.lists one told sound first);
   told = so_far.told;
   read = so_far.read;
@@ -189,6 +206,9 @@ can_later tells set found before now later begun cluster disks left es ticks can
   holds = λ one told peer last.
       let so_far = can.holds one told peer last in
       record { called = let low = so_far.called in omega (arith, low, ticks); log = so_far.log };
+  owns = λ told peer own.
+      let so_far = can.owns told peer own in
+      record { called = let low = so_far.called in omega (arith, low, ticks); leaves = so_far.leaves; log = so_far.log };
   goes = λ one told sound.
       let so_far = can.goes one told sound in
       record {

@@ -1,16 +1,17 @@
 -- What events show of the disks: one event, and one run of them behind another.
-use Rattle.std.proofs.Common.{◌≡◌, ◌≢◌, ◌∙◌, ap, sym, subst, ℕ, ◌≤◌, Bool, true, false, List, [], ◌∷◌, ◌++◌, Option, Some, None, refl, arith}
+use Rattle.std.proofs.Common.{◌≡◌, ◌∙◌, ap, sym, subst, ℕ, ◌≤◌, Bool, true, false, List, [], ◌∷◌, ◌++◌, Option, Some, None, refl, arith}
 use Rattle.std.specs.Prelude.{IsSome, OnOk, Result, Ok, Err, ⊤, if◌then◌else◌}
 use Rattle.hs_cluster.proofs.CalmLemmas.{calm_one, calm_reported}
 use Rattle.hs_cluster.proofs.CountLemmas.{all_none, all_one, all_quiet, all_still, all_then, counted_none, counted_one, counted_quiet, counted_still, counted_then}
 use Rattle.hs_cluster.proofs.EventLemmas.{still_going}
+use Rattle.hs_cluster.proofs.HeadLemmas.{heads_behind, heads_cut, heads_next, heads_quiet, heads_shown}
 use Rattle.hs_cluster.proofs.PastLemmas.{Worked, job_past, leaves_then, on_any, own_first, past_quiet}
 use Rattle.hs_cluster.proofs.PeerEventLemmas.{SlotStays}
 use Rattle.hs_cluster.proofs.PeerShowLemmas.{begin_lists, cut_lists, job_cut_lists, job_lists, lists_behind, none_lists, quiet_lists}
 use Rattle.hs_cluster.proofs.ReadLemmas.{quiet_reads, report_reads, some_job}
 use Rattle.hs_cluster.proofs.ReportLemmas.{call_fine, report_fine, report_logs, report_told}
 pub use Rattle.hs_cluster.proofs.StretchLemmas.{runs_core}
-use Rattle.hs_cluster.proofs.StretchLemmas.{behind, call_earlier, call_keeps, call_lists, call_moments, lists_then, none_yet, runs_append, step_going, stored_back, stored_front, told_by, told_then}
+use Rattle.hs_cluster.proofs.StretchLemmas.{steps_shape, behind, call_earlier, call_keeps, call_lists, call_moments, lists_then, none_yet, runs_append, step_going, stored_back, stored_front, told_by, told_then}
 use Rattle.hs_moments.proofs.SaneLemmas.{growing_beside, growing_without_call, sane_stays}
 use Rattle.hs_cluster.proofs.HeldLemmas.{own_job, sealed_stays}
 use Rattle.hs_cluster.specs.Calls.{Does, done_of, outcome_by, ran_out}
@@ -19,7 +20,7 @@ use Rattle.hs_cluster.specs.declared.fault.ClusterFault.{ClusterFault}
 use Rattle.hs_cluster.specs.declared.fault.ClusterFault.TheVariants.{NoMemory}
 use Rattle.hs_cluster.specs.Counts.{AllStandUntold, AreAllCounted, HasAllPaid, HasPaid, NoneFalls}
 use Rattle.hs_cluster.specs.Disks.{DiskSeen, log_at, stands_of}
-use Rattle.hs_cluster.specs.Headed.{IsHeadedAt, StaysHeadedAt}
+use Rattle.hs_cluster.specs.Headed.{IsHeadedAt, LeavesHeads, StaysHeadedAt}
 use Rattle.hs_cluster.specs.Jobs.{HasStored, ReadsOn, TellsBytes, Working, Works, WorksAlone, is_own}
 use Rattle.hs_cluster.specs.Kept.{AreStored, CanGoOn, CanRead, IsTold, KeepsLogs, ReadsLogs, Shows, Span, sealed_front}
 use Rattle.hs_cluster.specs.Past.{HoldsLog, LeavesPast}
@@ -49,7 +50,6 @@ use Rattle.hs_moments.specs.Moments.{GivesFine, Keeps, Since}
 use Rattle.hs_moments.specs.WholeMachine.{whole_machine}
 use Rattle.hs_peerlog.specs.Lists.{HasLog, IsKept, Keeping}
 use Rattle.hs_ports.specs.Moments.{disk_at}
-use Rattle.hs_side.specs.declared.header.Header.{Header}
 use Rattle.hs_side.specs.Headers.{own_header}
 
 -- ---- an event without a call
@@ -82,6 +82,7 @@ quiet_shows e now old new disks r quiet was does less stays = record {
   told = λ told c core can. told_by c e now r (subst (λ o. IsTold c o) (sym quiet) tt);
   read = λ told c core can stored. all_quiet old.core e now r disks quiet;
   reads_on = λ told c core can. reading r does c core can;
+  headed = λ told peer headed. heads_quiet (own_header old.core.members.shape peer) now old.logs new.logs disks r peer (less peer) headed;
   copies = λ told. quiet_lists e now old new disks r quiet was does stays;
 }
   where
@@ -121,6 +122,8 @@ none_shows now old new disks = record {
   told = λ told c core can. tt;
   read = λ told c core can stored. all_still old.core disks;
   reads_on = λ told c core can. tt;
+  headed = λ told peer headed.
+      heads_cut (own_header old.core.members.shape peer) now now disks disks old.logs new.logs (Err NoMemory) NoMemory peer (heads_quiet (own_header old.core.members.shape peer) now old.logs old.logs disks (Err NoMemory) peer (λ keeping at. at) headed);
   copies = λ told. none_lists now old new disks;
 }
 
@@ -139,16 +142,17 @@ begin_shows tells now old disks = record {
   told = λ told c core can. tt;
   read = λ told c core can stored. all_still old.core disks;
   reads_on = λ told c core can. can;
+  headed = λ told peer headed. heads_quiet (own_header old.core.members.shape peer) now old.logs old.logs disks (Ok tt) peer (λ keeping at. at) headed;
   copies = λ told. begin_lists now old disks;
 }
 
 -- whatever the disks tell
 pub any_shows : (tells : Type 0) (span : Span) (r : Result ⊤ ClusterFault) (es : Events) → Shows ⊤ span r es → Shows tells span r es
-any_shows tells span r es shows = record { counted = shows.counted; calm = shows.calm; past = λ told. shows.past tt; lists = λ told. shows.lists tt; goes_on = λ told. shows.goes_on tt; told = λ told. shows.told tt; read = λ told. shows.read tt; reads_on = λ told. shows.reads_on tt; copies = λ told. shows.copies tt }
+any_shows tells span r es shows = record { counted = shows.counted; calm = shows.calm; past = λ told. shows.past tt; lists = λ told. shows.lists tt; goes_on = λ told. shows.goes_on tt; told = λ told. shows.told tt; read = λ told. shows.read tt; reads_on = λ told. shows.reads_on tt; headed = λ told. shows.headed tt; copies = λ told. shows.copies tt }
 
 -- it is given up
 pub cut_shows : (tells : Type 0) (span : Span) (fault : ClusterFault) (es : Events) → Shows tells span (Ok tt) es → Shows tells span (Err fault) es
-cut_shows tells span fault es shows = record { counted = shows.counted; calm = λ first calm. tt; past = λ told first calm peer holds. record { stays = (shows.past told first calm peer holds).stays; holds = tt }; lists = shows.lists; goes_on = λ told c core can. tt; told = shows.told; read = shows.read; reads_on = λ told c core can. tt; copies = λ told. cut_lists span fault es (shows.copies told) }
+cut_shows tells span fault es shows = record { counted = shows.counted; calm = λ first calm. tt; past = λ told first calm peer holds. record { stays = (shows.past told first calm peer holds).stays; holds = tt }; lists = shows.lists; goes_on = λ told c core can. tt; told = shows.told; read = shows.read; reads_on = λ told c core can. tt; headed = λ told peer headed. heads_cut (own_header span.old.core.members.shape peer) span.before span.now span.disks span.left span.new.logs span.new.logs (Ok tt) fault peer (shows.headed told peer headed); copies = λ told. cut_lists span fault es (shows.copies told) }
 
 -- ---- a call and its report
 
@@ -158,8 +162,9 @@ pub job_cut : (tells : Type 0) (before now peer : ℕ) (old new : Running) (afte
     → (tells → is_own (first_job peer old.core) ≡ true → WorksAlone (record { peer = peer; before = before; now = now; logs = old.logs; after = after; disks = disks; left = left }) (first_job peer old.core) result)
     → (tells → Works (own_header old.core.members.shape peer) (record { peer = peer; before = before; now = now; logs = old.logs; after = after; disks = disks; left = left }) (first_job peer old.core) result)
     → NoneFalls disks left
+    → (tells → (p : ℕ) → IsHeadedAt (own_header old.core.members.shape p) before old.logs disks p → StaysHeadedAt (own_header old.core.members.shape p) before now disks after left p)
     → Shows tells (record { before = before; now = now; old = old; new = new; disks = disks; left = left }) (Err NoMemory) []
-job_cut tells before now peer old new after disks left {E = E} result is up was since works any falls = record {
+job_cut tells before now peer old new after disks left {E = E} result is up was since works any falls heads = record {
   counted = counted_none old.core disks left falls;
   calm = λ first calm. tt;
   past = λ told first calm k holds.
@@ -176,6 +181,8 @@ job_cut tells before now peer old new after disks left {E = E} result is up was 
   told = λ told c core can. tt;
   read = λ told c core can stored. all_none old.core disks left falls;
   reads_on = λ told c core can. tt;
+  headed = λ told p headed.
+      heads_cut (own_header old.core.members.shape p) before now disks left after new.logs (Err NoMemory) NoMemory p (heads_shown (own_header old.core.members.shape p) before now disks left after after (Err NoMemory) p refl (heads told p headed));
   copies = λ told. job_cut_lists before now peer old new after disks left result is was (since told) (any told);
 }
 
@@ -190,7 +197,7 @@ pub job_shows : (tells : Type 0) (before now peer : ℕ) (old new : Running) (af
     → (tells → is_own (first_job peer old.core) ≡ true → (list : Numbered) (waiting : Option Entry) → ((keeping : Keeping) → log_at old.logs peer ≡ Some keeping → IsKept keeping ((disk_at (stands_of disks) peer).seen keeping.log.side) list waiting)
     → (j : Job) → first_job peer old.core ≡ Some j → ReadsOn (log_at after peer) (disk_at (stands_of left) peer) j list waiting done)
     → (tells → Works {E = E} (own_header old.core.members.shape peer) (record { peer = peer; before = before; now = now; logs = old.logs; after = after; disks = disks; left = left }) (first_job peer old.core) (Ok done))
-    → (tells → first_job peer old.core ≢ Some job.Reset → (header : Header) → IsHeadedAt header before old.logs disks peer → StaysHeadedAt header before now disks after left peer)
+    → (tells → (p : ℕ) → IsHeadedAt (own_header old.core.members.shape p) before old.logs disks p → StaysHeadedAt (own_header old.core.members.shape p) before now disks after left p)
     → Shows tells (record { before = before; now = now; old = old; new = new; disks = disks; left = left }) r (done_of r (event.Report peer done, now))
 job_shows tells before now peer old new after disks left E done r is up was answer since works kept does falls paid stands bytes all had reads any heads = record {
   counted = counted_one old.core (event.Report peer done) now r disks left falls paid;
@@ -213,7 +220,8 @@ job_shows tells before now peer old new after disks left E done r is up was answ
   told = λ told c core can. told_by c e now r ((reads_then told c core can).told, bytes);
   read = λ told c core can stored. read_then told c core can (ran_out r) stored;
   reads_on = λ told c core can. reading r does told c core can;
-  copies = λ told. job_lists before now peer old new after disks left E done r is was answer (since told) (any told) (heads told) kept does bytes;
+  headed = λ told p headed. heads_shown (own_header old.core.members.shape p) before now disks left after new.logs r p kept (heads told p headed);
+  copies = λ told. job_lists before now peer old new after disks left E done r is was answer (since told) (any told) (heads told peer) kept does bytes;
 }
   where
     e : Event
@@ -313,9 +321,17 @@ shows_then tells before mid now old here new disks between left r es fs does ris
       (second.read told (runs whole_machine c es) (core_then c core) (first.reads_on told c core can) (stored_back c es fs stored));
   reads_on = λ told c core can.
       subst (λ s. OnOk r (CanRead s new.logs left)) (sym (runs_append c es fs)) (second.reads_on told (runs whole_machine c es) (core_then c core) (first.reads_on told c core can));
+  headed = λ told p headed.
+      let one = first.headed told p headed in
+      heads_next (own_header old.core.members.shape p) before mid now disks between left new.logs r p one.disk
+      (subst (λ (s : Shape). IsHeadedAt (own_header s p) mid here.logs between p → LeavesHeads (own_header s p) mid now between left new.logs r p) shape_is (second.headed told p)
+      (heads_behind (own_header old.core.members.shape p) before mid disks between here.logs p one));
   copies = λ told. lists_behind before mid now old here new disks between left r es fs does rise on (first.copies told) (second.copies told);
 }
   where
+    shape_is : here.core.members.shape ≡ old.core.members.shape
+    shape_is = ap (λ (x : Core). x.members.shape) (does.core refl) ∙ steps_shape es old.core
+
     core_then : (c : Whole) → c.core ≡ old.core → (runs whole_machine c es).core ≡ here.core
     core_then c core = runs_core c es ∙ ap (λ x. steps x es) core ∙ sym (does.core refl)
 

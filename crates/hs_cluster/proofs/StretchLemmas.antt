@@ -17,6 +17,7 @@ use Rattle.hs_events.specs.Course.{happened, is_refused, steps}
 use Rattle.hs_events.specs.Due.{Events, MomentsRise}
 use Rattle.hs_events.specs.Whole.{Whole, counts, step_whole}
 use Rattle.hs_fold.specs.Images.{IsLeft}
+use Rattle.hs_moments.proofs.CoreLemmas.{shape_at}
 use Rattle.hs_moments.proofs.HappenedLemmas.{happened_rise}
 use Rattle.hs_moments.proofs.MomentLemmas.{call-keeps, le-is, lt-is}
 use Rattle.hs_moments.specs.Machine.{runs, state_at, until}
@@ -35,6 +36,10 @@ runs_append c (e ∷ es) fs = runs_append (step_whole e.0 e.1 c) es fs
 pub runs_core : (c : Whole) (es : Events) → (runs whole_machine c es).core ≡ steps c.core es
 runs_core c [] = refl
 runs_core c (e ∷ es) = runs_core (step_whole e.0 e.1 c) es
+
+pub steps_shape : (es : Events) (core : Core) → (steps core es).members.shape ≡ core.members.shape
+steps_shape [] core = refl
+steps_shape (e ∷ es) core = steps_shape es (step e.0 e.1 core) ∙ shape_at core e.0 e.1
 
 -- a core that has ended stays, so what a core that goes on has behind it was not refused
 goes_unrefused : (core : Core) (es : Events) → (steps core es).ended ≡ None → is_refused core.ended ≡ false

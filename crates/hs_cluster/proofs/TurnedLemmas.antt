@@ -4,15 +4,13 @@ use Rattle.std.proofs.lemmas.List.{append-nil}
 use Rattle.std.specs.Option.{option_and_then, option_map, option_map_or}
 use Rattle.std.specs.Prelude.{IsSome, Result, Ok, Err, ⊤, is_ok, length, nat_lt}
 use Rattle.hs_cluster.proofs.GrowingLemmas.{goes_same}
-use Rattle.hs_cluster.proofs.HeadLemmas.{heads_stay}
 use Rattle.hs_cluster.proofs.ShowLemmas.{begin_shows, cut_shows}
 use Rattle.hs_cluster.specs.Begins.{Begins, HasOpened, HasTurned}
 use Rattle.hs_cluster.specs.Calls.{of_core, outcome_by, ran_out}
 use Rattle.hs_cluster.specs.declared.fault.ClusterFault.{ClusterFault}
 use Rattle.hs_cluster.specs.declared.fault.ClusterFault.TheVariants as why
-use Rattle.hs_cluster.specs.Disks.{DiskSeen, stands_of}
+use Rattle.hs_cluster.specs.Disks.{DiskSeen}
 use Rattle.hs_cluster.specs.Growing.{GoesOn}
-use Rattle.hs_cluster.specs.Headed.{IsHeadedAt, StaysHeadedAt}
 use Rattle.hs_cluster.specs.Kept.{Shows, Span as Turns}
 use Rattle.hs_cluster.specs.Running.{Running}
 use Rattle.hs_cluster.specs.Settling.{RunsWalk}
@@ -29,8 +27,6 @@ use Rattle.hs_events.specs.Course.{steps}
 use Rattle.hs_events.specs.declared.due.Due.{Due}
 use Rattle.hs_events.specs.declared.due.Place.{Place}
 use Rattle.hs_fold.specs.Shards.Setting.{Setting}
-use Rattle.hs_moments.specs.Moments.{Since as SinceAll}
-use Rattle.hs_side.specs.declared.header.Header.{Header}
 use Rattle.hs_taking.specs.Shares.{Span}
 use Rattle.hs_events.specs.Due.{Events, Walked, first_place, is_it, is_walk, move, next_turn, place_after, raises_known, walk}
 
@@ -102,9 +98,8 @@ not_ended ended is some = never (subst (λ o. IsSome o) is some)
 
 -- the turns that were done, whatever ended them
 pub turned : (tells : Type 0) (turns : Turns) (r : Result ⊤ ClusterFault) → turns.old.core.ended ≡ None → RunsWalk false 0 turns.before turns.now turns.old turns.new r (Shows tells turns r)
-    → (tells → (peer : ℕ) → GoesOn turns.old.logs turns.disks turns.new.logs turns.left peer)
-    → (tells → (peer : ℕ) (header : Header) → IsHeadedAt header turns.before turns.old.logs turns.disks peer → StaysHeadedAt header turns.before turns.now turns.disks turns.new.logs turns.left peer) → HasTurned tells turns r
-turned tells turns r going walks goes_on headed = record {
+    → (tells → (peer : ℕ) → GoesOn turns.old.logs turns.disks turns.new.logs turns.left peer) → HasTurned tells turns r
+turned tells turns r going walks goes_on = record {
   events = walks.events;
   due = whole turns.old.core walks.events r walks.due (λ there. walks.does.outcome there ∙ ap (λ (c : Core). outcome_by c.ended) (walks.does.core there));
   rises = walks.rises;
@@ -112,13 +107,12 @@ turned tells turns r going walks goes_on headed = record {
   still = λ ended. absurd (not_ended turns.old.core.ended going ended);
   shows = walks.kept;
   goes_on = goes_on;
-  headed = headed;
 }
 
 -- of a core that had ended none was done
-pub not_turned : (tells : Type 0) (now : ℕ) (old : Running) (disks : List DiskSeen) (ended : CoreFault) (fault : ClusterFault) → old.core.ended ≡ Some ended → fault ≡ of_core ended → (ended ≡ ends.NoMemory → ⊥) → (tells → SinceAll (stands_of disks))
+pub not_turned : (tells : Type 0) (now : ℕ) (old : Running) (disks : List DiskSeen) (ended : CoreFault) (fault : ClusterFault) → old.core.ended ≡ Some ended → fault ≡ of_core ended → (ended ≡ ends.NoMemory → ⊥)
     → HasTurned tells (record { before = now; now = now; old = old; new = old; disks = disks; left = disks }) (Err fault)
-not_turned tells now old disks ended fault is same never since = record {
+not_turned tells now old disks ended fault is same never = record {
   events = [];
   due = short (not (ran_out none_done));
   rises = omega arith;
@@ -134,7 +128,6 @@ not_turned tells now old disks ended fault is same never since = record {
   still = λ there. refl;
   shows = cut_shows tells _ fault [] (begin_shows tells now old disks);
   goes_on = λ told peer. goes_same old.logs disks peer;
-  headed = λ told peer header headed. heads_stay header now old.logs old.logs disks peer (since told peer) (λ keeping at. at) headed;
 }
   where
     none_done : Result ⊤ ClusterFault

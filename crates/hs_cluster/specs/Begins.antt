@@ -6,7 +6,6 @@ use Rattle.hs_cluster.specs.Counts.{NoneFalls}
 use Rattle.hs_cluster.specs.declared.fault.ClusterFault.{ClusterFault}
 use Rattle.hs_cluster.specs.declared.fault.ClusterFault.TheVariants as fault
 use Rattle.hs_cluster.specs.Growing.{GoesOn}
-use Rattle.hs_cluster.specs.Headed.{IsHeadedAt, StaysHeadedAt}
 use Rattle.hs_cluster.specs.Kept.{Shows, Span as Turns}
 use Rattle.hs_cluster.specs.Running.{Running}
 use Rattle.hs_core_words.specs.Opening.{Taken as Opened, open_core}
@@ -21,11 +20,13 @@ use Rattle.hs_peerlog.specs.declared.fault.LogFault.TheVariants as log
 use Rattle.hs_peerlog.specs.Opening.{refusal_in}
 use Rattle.hs_ports.specs.Fault.{HasRisen}
 use Rattle.hs_side.specs.declared.header.Header.{Header}
+use Rattle.hs_side.specs.Headers.{own_header}
 use Rattle.hs_taking.specs.Copies.{HasEvened}
 use Rattle.hs_taking.specs.declared.fault.TakeFault.{TakeFault}
 use Rattle.hs_taking.specs.declared.fault.TakeFault.TheVariants as take
 use Rattle.hs_taking.specs.declared.shares.Share.{Share}
 use Rattle.hs_taking.specs.Disks.{DiskSeen, log_at, seen_at}
+use Rattle.hs_taking.specs.Headed.{KeepsItsHeader, OwnTheirLogs}
 use Rattle.hs_taking.specs.Shares.{Span, Taken}
 use Rattle.hs_taking.specs.Viewed.{IsFirstOther}
 
@@ -86,6 +87,8 @@ pub record Begins (tells : Type 0) (set : Setting) (span : Span) (cluster : Runn
   pub disks : length span.old ≡ set.shape.shards * set.shape.copies
   pub left : length span.new ≡ length span.old
   pub logs : cluster.logs ≡ taken.logs
+  pub owns : OwnTheirLogs tells set.shape (log_at taken.logs)
+  pub headed : (peer : ℕ) → peer < length span.old → KeepsItsHeader tells (own_header set.shape peer) span.before span.now (seen_at span.old peer) (seen_at span.new peer)
   pub core : cluster.core ≡ open_core set.shape set.limits (opened_with taken) span.now
   pub course : cluster.course ≡ begun_course set.shape span.before span.now taken
 
@@ -100,9 +103,8 @@ pub record HasTurned (tells : Type 0) (turns : Turns) (done : Result ⊤ Cluster
   -- a core that had ended does none
   pub still : IsSome turns.old.core.ended → turns.left ≡ turns.disks
   pub shows : Shows tells turns done events
-  -- the list of each peer only goes on, as long as its log is in use; and where a stop left its disk blank or with one header, and so its log, it leaves no other at each moment
+  -- the list of each peer only goes on, as long as its log is in use
   pub goes_on : tells → (peer : ℕ) → GoesOn turns.old.logs turns.disks turns.new.logs turns.left peer
-  pub headed : tells → (peer : ℕ) (header : Header) → IsHeadedAt header turns.before turns.old.logs turns.disks peer → StaysHeadedAt header turns.before turns.now turns.disks turns.new.logs turns.left peer
 
 -- the cluster, the moment and the disks right before the first turn, and the turns
 pub record HasOpened (tells : Type 0) (set : Setting) (span : Span) (cluster : Running) (done : Result ⊤ ClusterFault) : Type 0 where

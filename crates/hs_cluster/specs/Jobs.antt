@@ -17,6 +17,7 @@ use Rattle.hs_peerlog.specs.Lists.{HasLog, IsKept, Keeping, last_of, numbered_en
 use Rattle.hs_ports.specs.Disk.{Standing}
 use Rattle.hs_ports.specs.Moments.{disk_at}
 use Rattle.hs_side.specs.declared.header.Header.{Header}
+use Rattle.hs_taking.specs.Headed.{OwnsLog}
 use Rattle.hs_taking.specs.Past.{PastStays}
 use Rattle.hs_shard.specs.Facts.{BlockList, pointers_at}
 
@@ -166,16 +167,12 @@ abbrev pub LeavesEmpty : Option ℕ → Try → Type 0
 LeavesEmpty None t = (keeping : Keeping) × (t.kept ≡ Some keeping) × HasLog keeping t.new [] None
 LeavesEmpty (Some disk) t = t.kept ≡ None
 
--- a log that is in use has this header
-abbrev pub OwnsLog : Header → Option Keeping → Type 0
-OwnsLog head kept = (keeping : Keeping) → kept ≡ Some keeping → (generation : ℕ) × (keeping.log.head ≡ Some (head, generation))
-
--- so behind it, whatever the disk held, under its peer's header; what is past of the disk stays. Where whatever a stop left had one of some lists, and no other peer's header, each moment leaves one of these, or the empty one, and no other header
+-- so behind it, whatever the disk held, under its peer's header; what is past of the disk stays. Where a stop left no other peer's header, no moment leaves one; and where whatever it left had one of some lists too, each moment leaves one of these, or the empty one
 pub record Empties {E : Type 0} (head : Header) (t : Try) (result : Result Done E) : Type 0 where
   pub log : IfOk result (λ done. LeavesEmpty (failed_disk done) t)
   pub own : IfOk result (λ done. OwnsLog head t.kept)
   pub moments : (lists : ℕ → Numbered) → LeavesAny t.old lists → LeavesHeader t.old head → LeavesEach t.before t.now t.old t.new (IsAnyOrNone lists)
-  pub headed : (lists : ℕ → Numbered) → LeavesAny t.old lists → LeavesHeader t.old head → KeepsHeader t.before t.new head
+  pub headed : LeavesHeader t.old head → KeepsHeader t.before t.new head
   pub past : PastStays t.before t.now t.old t.new
 
 -- ---- a copying step

@@ -3,6 +3,7 @@ use Rattle.std.specs.Prelude.{◌≡◌, ◌≤◌, ◌<◌, ◌-◌, ◌^◌, �
 use Rattle.hs_cluster.specs.Calm.{GoesCalmly}
 use Rattle.hs_cluster.specs.Counts.{AreAllCounted, AreCounted}
 use Rattle.hs_cluster.specs.Disks.{DiskSeen, log_at, stands_of}
+use Rattle.hs_cluster.specs.Headed.{IsHeadedAt, LeavesHeads}
 use Rattle.hs_cluster.specs.Jobs.{HasStored, TellsBytes}
 use Rattle.hs_cluster.specs.Past.{HoldsLog, LeavesPast}
 use Rattle.hs_cluster.specs.PeerLogs.{KeepsPeers}
@@ -25,6 +26,7 @@ use Rattle.hs_moments.specs.WholeMachine.{whole_machine}
 use Rattle.hs_peerlog.specs.Lists.{HasLog, IsKept, Keeping}
 use Rattle.hs_ports.specs.declared.disk.Side.{Side}
 use Rattle.hs_ports.specs.Moments.{disk_at}
+use Rattle.hs_side.specs.Headers.{own_header}
 
 -- ---- between two calls
 
@@ -108,5 +110,7 @@ pub record Shows (tells : Type 0) (span : Span) (result : Result ⊤ ClusterFaul
   pub told : tells → (c : Whole) → c.core ≡ span.old.core → CanRead c span.old.logs span.disks → AreTold c events
   pub read : tells → (c : Whole) → c.core ≡ span.old.core → CanRead c span.old.logs span.disks → AreStored c events → AreAllCounted span.old.core events span.disks span.left
   pub reads_on : tells → (c : Whole) → c.core ≡ span.old.core → CanRead c span.old.logs span.disks → OnOk result (CanRead (runs whole_machine c events) span.new.logs span.left)
-  -- with any number of copies
+  -- with any number of copies: a stop leaves no header on the disk of a peer but its own, where it left none before and its log has this
+  pub headed : tells → (peer : ℕ) → IsHeadedAt (own_header span.old.core.members.shape peer) span.before span.old.logs span.disks peer
+      → LeavesHeads (own_header span.old.core.members.shape peer) span.before span.now span.disks span.left span.new.logs result peer
   pub copies : tells → ShowsLists span result events

@@ -5,8 +5,10 @@ use Rattle.hs_cluster.specs.Calls.{outcome_by, ran_out}
 use Rattle.hs_cluster.specs.Calm.{GoesCalmly}
 use Rattle.hs_cluster.specs.Counts.{AreAllCounted, AreCounted, NoneFalls}
 use Rattle.hs_cluster.specs.declared.fault.ClusterFault.{ClusterFault}
+use Rattle.hs_cluster.specs.Headed.{IsOwnAt, LeavesHeads}
 use Rattle.hs_cluster.specs.Kept.{AreStored, AreTold, CanGoOn, CanRead, LeavesLists, ShowsLists}
 use Rattle.hs_cluster.specs.Past.{LeavesPast}
+use Rattle.hs_cluster.specs.PeerLogs.{KeepsPeers, log_of_peer}
 use Rattle.hs_cluster.specs.Rooms.{HaveRecordRoom}
 use Rattle.hs_cluster.specs.Running.{Running}
 use Rattle.hs_events.specs.Beginning.{first_items}
@@ -14,20 +16,23 @@ use Rattle.hs_events.specs.Course.{items_of, steps}
 use Rattle.hs_events.specs.Due.{Events, MomentsRise, is_walk, next_turn}
 use Rattle.hs_events.specs.Found.{Found, first_core, opened_list, starts_good}
 use Rattle.hs_events.specs.Taken.{is_taken, peer_count}
-use Rattle.hs_events.specs.Whole.{open_whole}
+use Rattle.hs_events.specs.Sane.{appended_of}
+use Rattle.hs_events.specs.Whole.{Whole, counts, floor, open_whole, reach}
 use Rattle.hs_fold.specs.Shards.Setting.{Numbered, Setting}
 use Rattle.hs_moments.specs.Machine.{runs}
-use Rattle.hs_moments.specs.WholeMachine.{whole_machine}
+use Rattle.hs_moments.specs.WholeMachine.{IsFrontOf, last_of, whole_machine}
 use Rattle.hs_peerlog.specs.Images.{LeavesOnly}
 use Rattle.hs_peerlog.specs.declared.fault.LogFault.TheVariants as log
 use Rattle.hs_peerlog.specs.Lists.{HasLog, IsKept, Keeping}
 use Rattle.hs_peerlog.specs.Opening.{refusal_in}
-use Rattle.hs_members.specs.Members.{home_of}
+use Rattle.hs_members.specs.Members.{IsPeer, home_of}
 use Rattle.hs_ports.specs.Fault.{HasRisen}
 use Rattle.hs_ports.specs.Moments.{disk_at}
 use Rattle.hs_side.specs.Current.{list_in}
 use Rattle.hs_side.specs.declared.header.Header.{Header}
+use Rattle.hs_side.specs.Headers.{own_header}
 use Rattle.hs_taking.specs.Disks.{DiskSeen, log_at, seen_at, stands_of}
+use Rattle.hs_taking.specs.Headed.{OwnTheirLogs}
 use Rattle.hs_taking.specs.Past.{PastStays}
 use Rattle.hs_taking.specs.Shares.{IsLater, IsLostDisk, KeepsDisk, Span}
 
@@ -86,6 +91,17 @@ pub record Finds (tells : Type 0) (set : Setting) (span : Span) (found : Found) 
 
 -- ---- all of it
 
+-- what a core beside its lists says right behind opening: the log of a peer, where it is told of, is that of a good one, with the list that its shard opened with, and nothing waits for its seal;
+-- and a disk that counts is a good peer's, whose list goes on from there
+pub record OpensLists (set : Setting) (found : Found) (c : Whole) : Type 0 where
+  pub core : c.core ≡ first_core set found
+  pub good : (peer : ℕ) (list : Numbered) → IsPeer set.shape peer → log_of_peer c peer ≡ Some list → starts_good found peer ≡ true
+  pub listed : (peer : ℕ) (list : Numbered) → IsPeer set.shape peer → log_of_peer c peer ≡ Some list → list ≡ opened_list set found (home_of set.shape peer)
+  pub none : (peer : ℕ) (list : Numbered) → IsPeer set.shape peer → log_of_peer c peer ≡ Some list → appended_of peer c.core ≡ None
+  pub counted : (peer : ℕ) → counts c peer ≡ true → starts_good found peer ≡ true
+  pub front : (peer : ℕ) → counts c peer ≡ true → IsFrontOf peer (opened_list set found (home_of set.shape peer)) (reach c peer)
+  pub long : (peer : ℕ) → counts c peer ≡ true → floor c peer ≤ last_of (opened_list set found (home_of set.shape peer))
+
 -- no call of a disk is ahead, and what it reads as is what a stop leaves, whatever that leaves
 pub record LeaveOneList (before : ℕ) (disks : List DiskSeen) : Type 0 where
   pub called : (peer : ℕ) → (seen_at disks peer).stands.last ≤ before
@@ -129,6 +145,11 @@ pub record Opens (tells : Type 0) (set : Setting) (span : Span) (cluster : Runni
   pub told : set.shape.copies ≡ 1 → tells → (first_core set found).ended ≡ None → AreTold (open_whole set found) events
   pub read : set.shape.copies ≡ 1 → tells → (first_core set found).ended ≡ None → AreStored (open_whole set found) events → AreAllCounted (first_core set found) events disks span.new
   pub reads_on : set.shape.copies ≡ 1 → tells → OnOk done (CanRead (runs whole_machine (open_whole set found) events) cluster.logs span.new)
-  -- with any number of copies, in the turns, from the core as it was opened
+  -- with any number of copies: before the first turn each log in use has the header of its peer; and where no call of a disk was ahead at entry, and a stop left no header there but its peer's, it leaves none at any moment from entry on, and so its log has this
+  pub owns : OwnTheirLogs tells set.shape (log_at begun.logs)
+  pub headed : tells → (peer : ℕ) → IsOwnAt set.shape span.before span.old peer → LeavesHeads (own_header set.shape peer) span.before span.now span.old span.new cluster.logs done peer
+  -- so what a cluster with copies keeps is kept before the first turn, where no call of a disk was ahead at entry and the core has the lists that its shards opened with
+  pub peers : tells → ((peer : ℕ) → (seen_at span.old peer).stands.last ≤ span.before) → (c : Whole) → OpensLists set found c → KeepsPeers c begun.logs disks found.opened
+  -- and in the turns, from the core as it was opened
   pub begins : begun.core ≡ first_core set found
   pub copies : tells → ShowsLists (record { before = found.opened; now = span.now; old = begun; new = cluster; disks = disks; left = span.new }) done events

@@ -3,6 +3,7 @@ use Rattle.std.specs.Prelude.{IsSome, List, None, Option, Some, length, ℕ, ◌
 use Rattle.hs_cluster.specs.Calm.{GoesCalmly}
 use Rattle.hs_cluster.specs.Counts.{AreAllCounted, AreCounted, NoneFalls}
 use Rattle.hs_cluster.specs.Disks.{DiskSeen, seen_at, stands_of}
+use Rattle.hs_cluster.specs.Headed.{IsHeadedAt, IsOwnAt, LeavesItsHeader}
 use Rattle.hs_cluster.specs.Kept.{AreStored, AreTold, CanGoOn, CanRead, LeavesLists, Span}
 use Rattle.hs_cluster.specs.Opens.{Finds, LeaveOneList}
 use Rattle.hs_cluster.specs.Past.{HoldsLog}
@@ -19,6 +20,7 @@ use Rattle.hs_peerlog.specs.Opening.{refusal_in}
 use Rattle.hs_ports.specs.Fault.{HasRisen}
 use Rattle.hs_ports.specs.Moments.{disk_at}
 use Rattle.hs_side.specs.declared.header.Header.{Header}
+use Rattle.hs_side.specs.Headers.{own_header}
 use Rattle.hs_taking.specs.Past.{PastStays}
 
 -- what opening found; that counts of faults rose as the reports tell; and, with one copy a shard, of disks that tell their contents, where a stop at entry leaves one list of each, the lists at each moment
@@ -26,6 +28,7 @@ use Rattle.hs_taking.specs.Past.{PastStays}
 -- own: a disk of another store failed
 -- still: where the core had ended nothing came behind the reading
 -- past: what is past of each disk stays, where no call of it was ahead
+-- headed: with any number of copies, where a stop at entry left no header on the disk of a peer but its own, it leaves none at any moment
 -- told, read: however the disks were at entry: what was told of blocks; and that reads too cost what they tell of failed calls, where the lists have what the catalogues say
 pub record RunsOn (tells : Type 0) (set : Setting) (span : Span) (found : Found) (events : Events) : Type 0 where
   pub slots : List (Option Keeping)
@@ -38,6 +41,7 @@ pub record RunsOn (tells : Type 0) (set : Setting) (span : Span) (found : Found)
   pub rooms : HaveRecordRoom (first_core set found) events
   pub still : IsSome (first_core set found).ended → span.left ≡ disks
   pub past : set.shape.copies ≡ 1 → tells → (peer : ℕ) → (disk_at (stands_of span.disks) peer).last ≤ span.before → PastStays span.before span.now (disk_at (stands_of span.disks) peer) (disk_at (stands_of span.left) peer)
+  pub headed : tells → (peer : ℕ) → IsOwnAt set.shape span.before span.disks peer → LeavesItsHeader (own_header set.shape peer) span.before span.now (disk_at (stands_of span.disks) peer) (disk_at (stands_of span.left) peer)
   pub lists : set.shape.copies ≡ 1 → tells → LeaveOneList span.before span.disks → (first_core set found).ended ≡ None → LeavesLists (open_whole set found) events span
   pub told : set.shape.copies ≡ 1 → tells → (first_core set found).ended ≡ None → AreTold (open_whole set found) events
   pub read : set.shape.copies ≡ 1 → tells → (first_core set found).ended ≡ None → AreStored (open_whole set found) events → AreAllCounted (first_core set found) events disks span.left
@@ -48,5 +52,7 @@ pub record CanRunOn (tells : Type 0) (set : Setting) (span : Span) (found : Foun
   pub calm : set.shape.copies ≡ 1 → GoesCalmly span.new.core span.disks span.left
   -- and the log of each that no call was ahead of has some list, whatever a stop leaves
   pub holds : set.shape.copies ≡ 1 → tells → (peer : ℕ) → (disk_at (stands_of span.disks) peer).last ≤ span.before → HoldsLog span.now span.new.logs span.left peer
+  -- and has the header of its peer, with any number of copies
+  pub owns : tells → (peer : ℕ) → IsOwnAt set.shape span.before span.disks peer → IsHeadedAt (own_header set.shape peer) span.now span.new.logs span.left peer
   pub goes : set.shape.copies ≡ 1 → tells → LeaveOneList span.before span.disks → CanGoOn (runs whole_machine (open_whole set found) events) span.new.logs span.left span.now
   pub reads : set.shape.copies ≡ 1 → tells → CanRead (runs whole_machine (open_whole set found) events) span.new.logs span.left

@@ -1,5 +1,5 @@
 //! The first job of a peer.
-ghost use Rattle.std.specs.Prelude.{◌≡◌, ◌≢◌, ◌*◌, ◌+◌, ◌≤◌, ℕ, None, Option, Some, length, map, true, false, IfOk, IsOkUnless, IsSome, OnErr, OnOk};
+ghost use Rattle.std.specs.Prelude.{◌≡◌, ◌*◌, ◌+◌, ◌≤◌, ℕ, None, Option, Some, length, map, true, false, IfOk, IsOkUnless, IsSome, OnErr, OnOk};
 ghost use Rattle.hs_cluster.specs.declared.fault.ClusterFault.TheVariants.{NoMemory};
 ghost use Rattle.hs_cluster.specs.Counts.{AllStandUntold, HasAllPaid, HasPaid, IsCopyPaid, IsPaid, NoneFalls, StandsUntold};
 ghost use Rattle.hs_cluster.specs.Disks.{AreReady, IsSlotReady, log_at, seen_as, seen_at, stands_of};
@@ -77,23 +77,14 @@ pub(crate) fn do_job<D: Disk>(
         (map (λ disk. seen_as (D.size disk) (D.stands disk) (D.faults disk)) disks.old)
         logs.new.items
         (map (λ disk. seen_as (D.size disk) (D.stands disk) (D.faults disk)) disks.new) p }
-    // Nor does a stop leave another header on its disk than was there.
-    ensures headed { D.tells → (p : ℕ) → is_joining (status_of p core.now) ≡ false
-        → (header : Header)
-        → IsHeadedAt header watch.old logs.old.items
+    // A stop leaves no header on the disk of a peer but its own, where it left none before.
+    ensures headed { D.tells → (p : ℕ)
+        → IsHeadedAt (own_header core.now.members.shape p) watch.old logs.old.items
         (map (λ disk. seen_as (D.size disk) (D.stands disk) (D.faults disk)) disks.old) p
-        → StaysHeadedAt header watch.old watch.new
+        → StaysHeadedAt (own_header core.now.members.shape p) watch.old watch.new
         (map (λ disk. seen_as (D.size disk) (D.stands disk) (D.faults disk)) disks.old)
         logs.new.items
         (map (λ disk. seen_as (D.size disk) (D.stands disk) (D.faults disk)) disks.new) p }
-    // Nor on that of its peer, where it is not emptied.
-    ensures heads { D.tells → first_job peer core.now ≢ Some job.Reset → (header : Header)
-        → IsHeadedAt header watch.old logs.old.items
-        (map (λ disk. seen_as (D.size disk) (D.stands disk) (D.faults disk)) disks.old) peer
-        → StaysHeadedAt header watch.old watch.new
-        (map (λ disk. seen_as (D.size disk) (D.stands disk) (D.faults disk)) disks.old)
-        logs.new.items
-        (map (λ disk. seen_as (D.size disk) (D.stands disk) (D.faults disk)) disks.new) peer }
     // No count falls. That of a disk whose failed call is told rose, but for a job that only read.
     ensures later { NoneFalls
         (map (λ disk. seen_as (D.size disk) (D.stands disk) (D.faults disk)) disks.old)
@@ -340,11 +331,11 @@ fn do_reset<D: Disk>(
     ensures fails { IfOk result (FailsAlone peer) }
     ensures goes_on { D.tells → is_joining (status_of peer core.now) ≡ false
         → SlotGoesOn slot.old slot.new (D.stands disk.old) (D.stands disk.new) }
-    ensures headed { D.tells → is_joining (status_of peer core.now) ≡ false
-        → (header : Header)
-        → IsHeaded header watch.old slot.old (D.stands disk.old)
-        → StaysHeaded header watch.old watch.new (D.stands disk.old) (D.stands disk.new)
-        slot.new }
+    ensures headed { D.tells
+        → IsHeaded (own_header core.now.members.shape peer) watch.old slot.old
+        (D.stands disk.old)
+        → StaysHeaded (own_header core.now.members.shape peer) watch.old watch.new
+        (D.stands disk.old) (D.stands disk.new) slot.new }
     ensures later { D.faults disk.old ≤ D.faults disk.new }
     ensures paid { IfOk result (IsPaid peer (D.faults disk.old) (D.faults disk.new)) }
     ensures calm { IfOk result (StandsUntold peer (D.faults disk.old) (D.faults disk.new)) }

@@ -4,7 +4,6 @@ ghost use Rattle.hs_cluster.specs.Calls.{RunsLine, of_core};
 ghost use Rattle.hs_events.specs.Commands.{is_served, uses_disks};
 ghost use Rattle.hs_cluster.specs.Disks.{AreReady, DiskSeen, log_at, seen_as};
 ghost use Rattle.hs_cluster.specs.Growing.{GoesOn};
-ghost use Rattle.hs_cluster.specs.Headed.{IsHeadedAt, StaysHeadedAt};
 ghost use Rattle.hs_cluster.specs.Jobs.{StandsBeside};
 ghost use Rattle.hs_cluster.specs.Kept.{Shows};
 ghost use Rattle.hs_core_words.specs.Looking.{first_job, status_of};
@@ -14,7 +13,6 @@ ghost use Rattle.hs_members.specs.Members.{is_joining};
 ghost use Rattle.hs_model.specs.declared.command.Command.TheVariants as command;
 ghost use Rattle.hs_model.specs.declared.command.Command.TheVariants.{Fail, Start, Turn};
 ghost use Rattle.hs_peerlog.specs.Lists.{Keeping};
-ghost use Rattle.hs_side.specs.declared.header.Header.{Header};
 
 use crate::{Cluster, ClusterFault};
 use hs_block::Addresser;
@@ -80,14 +78,6 @@ impl Cluster {
             (map (λ disk. seen_as (D.size disk) (D.stands disk) (D.faults disk)) disks.old)
             self.new.logs
             (map (λ disk. seen_as (D.size disk) (D.stands disk) (D.faults disk)) disks.new) peer }
-        // Nor does a stop leave another header on its disk, where none did before and the log has this.
-        ensures headed { D.tells → (p : ℕ) → is_joining (status_of p self.old.core) ≡ false
-            → (header : Header) → IsHeadedAt header watch.old self.old.logs
-            (map (λ disk. seen_as (D.size disk) (D.stands disk) (D.faults disk)) disks.old) p
-            → StaysHeadedAt header watch.old watch.new
-            (map (λ disk. seen_as (D.size disk) (D.stands disk) (D.faults disk)) disks.old)
-            self.new.logs
-            (map (λ disk. seen_as (D.size disk) (D.stands disk) (D.faults disk)) disks.new) p }
         ensures joins { (peer : ℕ) → command ≢ Start peer
             → is_joining (status_of peer self.old.core) ≡ false
             → OnOk result (is_joining (status_of peer self.new.core) ≡ false) }
@@ -226,13 +216,6 @@ impl Cluster {
             (map (λ disk. seen_as (D.size disk) (D.stands disk) (D.faults disk)) disks.new) }
         ensures goes_on { D.tells → (p : ℕ) → is_joining (status_of p self.old.core) ≡ false
             → GoesOn self.old.logs
-            (map (λ disk. seen_as (D.size disk) (D.stands disk) (D.faults disk)) disks.old)
-            self.new.logs
-            (map (λ disk. seen_as (D.size disk) (D.stands disk) (D.faults disk)) disks.new) p }
-        ensures headed { D.tells → (p : ℕ) → is_joining (status_of p self.old.core) ≡ false
-            → (header : Header) → IsHeadedAt header watch.old self.old.logs
-            (map (λ disk. seen_as (D.size disk) (D.stands disk) (D.faults disk)) disks.old) p
-            → StaysHeadedAt header watch.old watch.new
             (map (λ disk. seen_as (D.size disk) (D.stands disk) (D.faults disk)) disks.old)
             self.new.logs
             (map (λ disk. seen_as (D.size disk) (D.stands disk) (D.faults disk)) disks.new) p }

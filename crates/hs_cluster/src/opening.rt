@@ -10,6 +10,8 @@ ghost use Rattle.hs_core_words.specs.Opening.{open_core};
 ghost use Rattle.hs_limits.specs.Shape.{IsShape};
 ghost use Rattle.hs_members.specs.Members.{IsPeer, all_peers, is_joining};
 ghost use Rattle.hs_side.specs.declared.header.Header.{Header};
+ghost use Rattle.hs_side.specs.Headers.{own_header};
+ghost use Rattle.hs_taking.specs.Headed.{KeepsItsHeader};
 ghost use Rattle.hs_taking.specs.Spared.{SparesDisks};
 ghost use Rattle.hs_taking.specs.Viewed.{IsOnlyRead};
 
@@ -100,6 +102,14 @@ impl Cluster {
           old = map (λ disk. seen_as (D.size disk) (D.stands disk) (D.faults disk)) disks.old;
           new = map (λ disk. seen_as (D.size disk) (D.stands disk) (D.faults disk)) disks.new;
         })) }
+        // And, with any number of copies, a stop leaves no header on the disk of a peer but its own,
+        // where it left none before.
+        ensures headed { OnErr result ((peer : ℕ) → peer < length disks.old
+            → KeepsItsHeader D.tells (own_header shape peer) watch.old watch.new
+            (seen_at (map (λ disk. seen_as (D.size disk) (D.stands disk) (D.faults disk))
+            disks.old) peer)
+            (seen_at (map (λ disk. seen_as (D.size disk) (D.stands disk) (D.faults disk))
+            disks.new) peer)) }
         // Nobody is joining behind it.
         ensures joins { IfOk result (λ opened. OnOk opened.done
             ((peer : ℕ) → is_joining (status_of peer opened.cluster.core) ≡ false)) }
@@ -167,6 +177,12 @@ impl Cluster {
           old = map (λ disk. seen_as (D.size disk) (D.stands disk) (D.faults disk)) disks.old;
           new = map (λ disk. seen_as (D.size disk) (D.stands disk) (D.faults disk)) disks.new;
         }) }
+        ensures headed { (peer : ℕ) → peer < length disks.old
+            → KeepsItsHeader D.tells (own_header shape peer) watch.old watch.new
+            (seen_at (map (λ disk. seen_as (D.size disk) (D.stands disk) (D.faults disk))
+            disks.old) peer)
+            (seen_at (map (λ disk. seen_as (D.size disk) (D.stands disk) (D.faults disk))
+            disks.new) peer) }
         ensures ready { IfOk result (λ cluster. AreReady D.tells cluster.logs
             (map (λ disk. seen_as (D.size disk) (D.stands disk) (D.faults disk)) disks.new)) }
         ensures shape { IfOk result (λ cluster. cluster.core.members.shape ≡ shape) }

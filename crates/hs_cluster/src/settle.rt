@@ -4,7 +4,6 @@ ghost use Rattle.std.specs.Prelude.{◌≡◌, ◌*◌, ◌<◌, ◌≤◌, ℕ,
 ghost use Rattle.hs_events.specs.declared.due.Due.TheVariants.{Reporting};
 ghost use Rattle.hs_cluster.specs.Disks.{AreReady, seen_as};
 ghost use Rattle.hs_cluster.specs.Growing.{GoesOn};
-ghost use Rattle.hs_cluster.specs.Headed.{IsHeadedAt, StaysHeadedAt};
 ghost use Rattle.hs_cluster.specs.Kept.{Shows};
 ghost use Rattle.hs_events.specs.Due.{place_after, raises_known};
 ghost use Rattle.hs_cluster.specs.Settling.{DoesDue, RunsWalk, due_with};
@@ -12,7 +11,6 @@ ghost use Rattle.hs_events.specs.Due.{IsDueOf, peer_due};
 ghost use Rattle.hs_cluster.specs.Jobs.{StandsBeside};
 ghost use Rattle.hs_core_words.specs.Looking.{first_job, known_of, status_of};
 ghost use Rattle.hs_members.specs.Members.{IsPeer, all_peers, is_joining};
-ghost use Rattle.hs_side.specs.declared.header.Header.{Header};
 
 use crate::job::do_job;
 use crate::{Cluster, ClusterFault};
@@ -49,13 +47,6 @@ impl Cluster {
             }) result) }
         ensures goes_on { D.tells → (p : ℕ) → is_joining (status_of p self.old.core) ≡ false
             → GoesOn self.old.logs
-            (map (λ disk. seen_as (D.size disk) (D.stands disk) (D.faults disk)) disks.old)
-            self.new.logs
-            (map (λ disk. seen_as (D.size disk) (D.stands disk) (D.faults disk)) disks.new) p }
-        ensures headed { D.tells → (p : ℕ) → is_joining (status_of p self.old.core) ≡ false
-            → (header : Header) → IsHeadedAt header watch.old self.old.logs
-            (map (λ disk. seen_as (D.size disk) (D.stands disk) (D.faults disk)) disks.old) p
-            → StaysHeadedAt header watch.old watch.new
             (map (λ disk. seen_as (D.size disk) (D.stands disk) (D.faults disk)) disks.old)
             self.new.logs
             (map (λ disk. seen_as (D.size disk) (D.stands disk) (D.faults disk)) disks.new) p }
@@ -115,13 +106,6 @@ impl Cluster {
             (map (λ disk. seen_as (D.size disk) (D.stands disk) (D.faults disk)) disks.old)
             self.new.logs
             (map (λ disk. seen_as (D.size disk) (D.stands disk) (D.faults disk)) disks.new) p }
-        ensures headed { D.tells → (p : ℕ) → is_joining (status_of p self.old.core) ≡ false
-            → (header : Header) → IsHeadedAt header watch.old self.old.logs
-            (map (λ disk. seen_as (D.size disk) (D.stands disk) (D.faults disk)) disks.old) p
-            → StaysHeadedAt header watch.old watch.new
-            (map (λ disk. seen_as (D.size disk) (D.stands disk) (D.faults disk)) disks.old)
-            self.new.logs
-            (map (λ disk. seen_as (D.size disk) (D.stands disk) (D.faults disk)) disks.new) p }
         ensures joins { (p : ℕ) → is_joining (status_of p self.old.core) ≡ false
             → OnOk result (is_joining (status_of p self.new.core) ≡ false) }
         ensures ready { OnOk result (AreReady D.tells self.new.logs
@@ -169,13 +153,6 @@ impl Cluster {
             (map (λ disk. seen_as (D.size disk) (D.stands disk) (D.faults disk)) disks.new) }
         ensures goes_on { D.tells → (p : ℕ) → is_joining (status_of p self.old.core) ≡ false
             → GoesOn self.old.logs
-            (map (λ disk. seen_as (D.size disk) (D.stands disk) (D.faults disk)) disks.old)
-            self.new.logs
-            (map (λ disk. seen_as (D.size disk) (D.stands disk) (D.faults disk)) disks.new) p }
-        ensures headed { D.tells → (p : ℕ) → is_joining (status_of p self.old.core) ≡ false
-            → (header : Header) → IsHeadedAt header watch.old self.old.logs
-            (map (λ disk. seen_as (D.size disk) (D.stands disk) (D.faults disk)) disks.old) p
-            → StaysHeadedAt header watch.old watch.new
             (map (λ disk. seen_as (D.size disk) (D.stands disk) (D.faults disk)) disks.old)
             self.new.logs
             (map (λ disk. seen_as (D.size disk) (D.stands disk) (D.faults disk)) disks.new) p }
@@ -227,13 +204,6 @@ impl Cluster {
             (map (λ disk. seen_as (D.size disk) (D.stands disk) (D.faults disk)) disks.new) }
         ensures goes_on { D.tells → (p : ℕ) → is_joining (status_of p self.old.core) ≡ false
             → GoesOn self.old.logs
-            (map (λ disk. seen_as (D.size disk) (D.stands disk) (D.faults disk)) disks.old)
-            self.new.logs
-            (map (λ disk. seen_as (D.size disk) (D.stands disk) (D.faults disk)) disks.new) p }
-        ensures headed { D.tells → (p : ℕ) → is_joining (status_of p self.old.core) ≡ false
-            → (header : Header) → IsHeadedAt header watch.old self.old.logs
-            (map (λ disk. seen_as (D.size disk) (D.stands disk) (D.faults disk)) disks.old) p
-            → StaysHeadedAt header watch.old watch.new
             (map (λ disk. seen_as (D.size disk) (D.stands disk) (D.faults disk)) disks.old)
             self.new.logs
             (map (λ disk. seen_as (D.size disk) (D.stands disk) (D.faults disk)) disks.new) p }

@@ -283,15 +283,14 @@ pub(crate) fn empty_disk<D: Disk>(
         → IfOk result (λ log. HasLog log (D.stands disk.new) [] None) }
     ensures own { D.tells → IfOk result (λ log. (generation : ℕ)
         × (log.log.head ≡ Some (own_header shape peer, generation))) }
-    // Where whatever a stop left had one of some lists, and no other peer's header, each moment leaves
-    // one of these, or the empty one, and no other header.
+    // Where a stop left no other peer's header, no moment leaves one; and where whatever it left had
+    // one of some lists too, each moment leaves one of these, or the empty one.
     ensures any_moment { D.tells → (D.stands disk.old).last ≤ watch.old
         → (lists : ℕ → Numbered) → LeavesAny (D.stands disk.old) lists
         → LeavesHeader (D.stands disk.old) (own_header shape peer)
         → LeavesEach watch.old watch.new (D.stands disk.old) (D.stands disk.new)
         (IsAnyOrNone lists) }
     ensures headed { D.tells → (D.stands disk.old).last ≤ watch.old
-        → (lists : ℕ → Numbered) → LeavesAny (D.stands disk.old) lists
         → LeavesHeader (D.stands disk.old) (own_header shape peer)
         → KeepsHeader watch.old (D.stands disk.new) (own_header shape peer) }
     ensures past { D.tells → (D.stands disk.old).last ≤ watch.old

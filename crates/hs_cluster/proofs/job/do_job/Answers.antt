@@ -1,6 +1,6 @@
 use Rattle.std.proofs.Common.{rules, ◌≡◌, ◌∙◌, ◌<◌, Some, false, ap, arith, length, map, refl, slice_set, subst, sym, true}
 use Rattle.std.proofs.lemmas.Grind.{common_steps}
-use Rattle.std.specs.Prelude.{IfOk, IsSome}
+use Rattle.std.specs.Prelude.{IfOk, IsSome, slice_index_or}
 use Rattle.hs_cluster.proofs.CopyLemmas.{beside_one, beside_same, usual_own, works_cut, works_own, works_reset}
 use Rattle.hs_cluster.proofs.CountLemmas.{all_paid_result, copy_paid_result, falls_not, falls_same, job_paid_result, paid_at, stand_at}
 use Rattle.hs_cluster.proofs.DiskLemmas.{log_read, not_own, reads_at, since_of, slot_at, stored_as, works_at, works_nothing}
@@ -8,6 +8,7 @@ use Rattle.hs_cluster.proofs.GrowingLemmas.{goes_at, goes_same}
 use Rattle.hs_cluster.proofs.HeadLemmas.{heads_at, heads_stay}
 use Rattle.hs_cluster.specs.Disks.{DiskSeen, log_at, seen_as}
 use Rattle.hs_cluster.specs.declared.fault.ClusterFault.TheVariants.{NoMemory}
+use Rattle.hs_cluster.specs.Headed.{IsHeaded, StaysHeaded}
 use Rattle.hs_cluster.specs.Jobs.{FailsAlone, StandsBeside, Works, WorksAlone, is_own}
 use Rattle.hs_core_words.specs.Looking.{catalogue_of, first_job, home, status_of}
 use Rattle.hs_desk.specs.declared.job.Job.{Job}
@@ -281,50 +282,30 @@ returns-in-Append-clause-goes_on g c = λ told p apart.
 -- ---- whose header a stop leaves
 
 pub returns-in_default-clause-headed : goal.returns-in_default-clause-headed
-returns-in_default-clause-headed g c = λ told p apart header headed.
+returns-in_default-clause-headed g c = λ told p headed.
     let f : g.row.D.Denot → DiskSeen = λ disk. seen_as (g.D.Disk.size disk) (g.D.Disk.stands disk) (g.D.Disk.faults disk) in
-    heads_stay header c.args.watch.now c.args.logs.now.items c.args.logs.now.items (map f c.args.disks.now) p (since_of f c.args.disks.now (g.met.D.Disk.since told) p) (λ keeping at. at) headed
+    heads_stay (own_header c.args.core.now.members.shape p) c.args.watch.now c.args.logs.now.items c.args.logs.now.items (map f c.args.disks.now) p (since_of f c.args.disks.now (g.met.D.Disk.since told) p) (λ keeping at. at) headed
 
 pub returns-in-Reset-clause-headed : goal.returns-in-Reset-clause-headed
-returns-in-Reset-clause-headed g c = λ told p apart header headed.
+returns-in-Reset-clause-headed g c = λ told p headed.
     let f : g.row.D.Denot → DiskSeen = λ disk. seen_as (g.D.Disk.size disk) (g.D.Disk.stands disk) (g.D.Disk.faults disk) in
     let item : c.index_mut.result.now ≡ log_at c.args.logs.now.items c.from-place.result = grind (arith, common_steps) in
     let low : c.from-place.result < length c.args.disks.now = grind (arith, common_steps) in
     let low_logs : c.from-place.result < length c.args.logs.now.items = grind (arith, common_steps) in
     let place : c.from-place.result ≡ c.args.peer = grind (arith, common_steps) in
-    heads_at header c.args.watch.now c.do_reset.new.watch c.args.logs.now.items c.args.disks.now f c.from-place.result c.index_mut.result.now c.do_reset.new.slot c.index-disks-place.result c.do_reset.new.disk p c.do_reset.ensures.ticks (since_of f c.args.disks.now (g.met.D.Disk.since told) p) item low_logs low
-    (λ e one. c.do_reset.ensures.headed told (subst (λ k. is_joining (status_of k c.args.core.now) ≡ false) (sym e ∙ place) apart) header one) headed
+    heads_at (own_header c.args.core.now.members.shape p) c.args.watch.now c.do_reset.new.watch c.args.logs.now.items c.args.disks.now f c.from-place.result c.index_mut.result.now c.do_reset.new.slot c.index-disks-place.result c.do_reset.new.disk p c.do_reset.ensures.ticks (since_of f c.args.disks.now (g.met.D.Disk.since told) p) item low_logs low
+    (λ e one. subst (λ k. IsHeaded (own_header c.args.core.now.members.shape k) c.args.watch.now c.index_mut.result.now (g.D.Disk.stands (slice_index_or c.args.disks.now c.from-place.result c.index-disks-place.result))
+    → StaysHeaded (own_header c.args.core.now.members.shape k) c.args.watch.now c.do_reset.new.watch (g.D.Disk.stands (slice_index_or c.args.disks.now c.from-place.result c.index-disks-place.result)) (g.D.Disk.stands c.do_reset.new.disk) c.do_reset.new.slot) (sym place ∙ e)
+    (c.do_reset.ensures.headed told) one) headed
 
 pub returns-in-Copy-clause-headed : goal.returns-in-Copy-clause-headed
-returns-in-Copy-clause-headed g c = λ told p apart header headed. c.do_copy.ensures.headed told p header headed
+returns-in-Copy-clause-headed g c = λ told p headed. c.do_copy.ensures.headed told p (own_header c.args.core.now.members.shape p) headed
 
 pub returns-in-Append-clause-headed : goal.returns-in-Append-clause-headed
-returns-in-Append-clause-headed g c = λ told p apart header headed.
+returns-in-Append-clause-headed g c = λ told p headed.
     let f : g.row.D.Denot → DiskSeen = λ disk. seen_as (g.D.Disk.size disk) (g.D.Disk.stands disk) (g.D.Disk.faults disk) in
     let item : c.index_mut-in-Append.result.now ≡ log_at c.args.logs.now.items c.from-place.result = grind (arith, common_steps) in
     let low : c.from-place.result < length c.args.disks.now = grind (arith, common_steps) in
     let low_logs : c.from-place.result < length c.args.logs.now.items = grind (arith, common_steps) in
-    heads_at header c.args.watch.now c.do_usual.new.watch c.args.logs.now.items c.args.disks.now f c.from-place.result c.index_mut-in-Append.result.now c.do_usual.new.slot c.index-disks-place-in-Append.result c.do_usual.new.disk p c.do_usual.ensures.ticks (since_of f c.args.disks.now (g.met.D.Disk.since told) p) item low_logs low
-    (λ e one. c.do_usual.ensures.headed told header one) headed
-
-pub returns-in_default-clause-heads : goal.returns-in_default-clause-heads
-returns-in_default-clause-heads g c = λ told other header headed.
-    let f : g.row.D.Denot → DiskSeen = λ disk. seen_as (g.D.Disk.size disk) (g.D.Disk.stands disk) (g.D.Disk.faults disk) in
-    heads_stay header c.args.watch.now c.args.logs.now.items c.args.logs.now.items (map f c.args.disks.now) c.args.peer (since_of f c.args.disks.now (g.met.D.Disk.since told) c.args.peer) (λ keeping at. at) headed
-
-pub returns-in-Reset-clause-heads : goal.returns-in-Reset-clause-heads
-returns-in-Reset-clause-heads g c = λ told other header headed.
-    let first : Some c.in-Some.job.now ≡ first_job c.args.peer c.args.core.now = first_of (search rules, grind (arith, common_steps)) in
-    absurd (other (sym first ∙ ap (λ (j : Job). Some j) c.in-Reset.is))
-
-pub returns-in-Copy-clause-heads : goal.returns-in-Copy-clause-heads
-returns-in-Copy-clause-heads g c = λ told other header headed. c.do_copy.ensures.headed told c.args.peer header headed
-
-pub returns-in-Append-clause-heads : goal.returns-in-Append-clause-heads
-returns-in-Append-clause-heads g c = λ told other header headed.
-    let f : g.row.D.Denot → DiskSeen = λ disk. seen_as (g.D.Disk.size disk) (g.D.Disk.stands disk) (g.D.Disk.faults disk) in
-    let item : c.index_mut-in-Append.result.now ≡ log_at c.args.logs.now.items c.from-place.result = grind (arith, common_steps) in
-    let low : c.from-place.result < length c.args.disks.now = grind (arith, common_steps) in
-    let low_logs : c.from-place.result < length c.args.logs.now.items = grind (arith, common_steps) in
-    heads_at header c.args.watch.now c.do_usual.new.watch c.args.logs.now.items c.args.disks.now f c.from-place.result c.index_mut-in-Append.result.now c.do_usual.new.slot c.index-disks-place-in-Append.result c.do_usual.new.disk c.args.peer c.do_usual.ensures.ticks (since_of f c.args.disks.now (g.met.D.Disk.since told) c.args.peer) item low_logs low
-    (λ e one. c.do_usual.ensures.headed told header one) headed
+    heads_at (own_header c.args.core.now.members.shape p) c.args.watch.now c.do_usual.new.watch c.args.logs.now.items c.args.disks.now f c.from-place.result c.index_mut-in-Append.result.now c.do_usual.new.slot c.index-disks-place-in-Append.result c.do_usual.new.disk p c.do_usual.ensures.ticks (since_of f c.args.disks.now (g.met.D.Disk.since told) p) item low_logs low
+    (λ e one. c.do_usual.ensures.headed told (own_header c.args.core.now.members.shape p) one) headed

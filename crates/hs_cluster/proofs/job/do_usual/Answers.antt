@@ -1,6 +1,7 @@
 use Rattle.std.proofs.Common.{◌∙◌, arith, sym}
 use Rattle.hs_cluster.proofs.GrowingLemmas.{slot_gone, slot_own}
-use Rattle.hs_cluster.proofs.HeadLemmas.{headed_gone, headed_log, headed_ok, heads_still}
+use Rattle.hs_cluster.proofs.HeadLemmas.{headed_gone, headed_log, headed_ok}
+use Rattle.hs_taking.proofs.HeadLemmas.{heads_still}
 use Rattle.hs_cluster.proofs.job.do_usual.Goals as goal
 
 pub returns-in-Ok-clause-goes_on : goal.returns-in-Ok-clause-goes_on

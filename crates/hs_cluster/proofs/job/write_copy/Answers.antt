@@ -1,7 +1,8 @@
 use Rattle.std.proofs.Common.{◌∙◌, arith, refl, sym}
 use Rattle.hs_cluster.proofs.EmptyLemmas.{log_taken, write_cut, write_failed, write_ok}
 use Rattle.hs_cluster.proofs.GrowingLemmas.{slot_copied, slot_gone}
-use Rattle.hs_cluster.proofs.HeadLemmas.{headed_gone, headed_log, headed_ok, heads_still}
+use Rattle.hs_cluster.proofs.HeadLemmas.{headed_gone, headed_log, headed_ok}
+use Rattle.hs_taking.proofs.HeadLemmas.{heads_still}
 use Rattle.hs_cluster.proofs.job.write_copy.Goals as goal
 
 pub returns-in-Ok-clause-copies : goal.returns-in-Ok-clause-copies

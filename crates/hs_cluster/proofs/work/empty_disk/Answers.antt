@@ -1,5 +1,5 @@
 use Rattle.hs_cluster.proofs.EmptyLemmas.{failed_moments, list_found, not_refused, own_emptied, recovered_moments}
-use Rattle.hs_cluster.proofs.HeadLemmas.{heads_then}
+use Rattle.hs_taking.proofs.HeadLemmas.{header_then, heads_then}
 use Rattle.hs_peerlog.specs.Heads.{own_head}
 use Rattle.hs_side.specs.Current.{list_in}
 use Rattle.hs_side.specs.Headers.{own_header}
@@ -35,7 +35,7 @@ returns-in-Ok-clause-own g c = λ told.
     own_emptied (own_header c.args.shape c.args.peer) (own_head c.args.shape c.args.peer (g.D.Disk.stands c.args.disk.now).seen).1 c.in-Ok.log c.empty_log.result (c.in-Ok.ensures.head told) c.empty_log.ensures.head
 
 pub returns-in-Ok-clause-headed : goal.returns-in-Ok-clause-headed
-returns-in-Ok-clause-headed g c = λ told last lists leaves headed.
+returns-in-Ok-clause-headed g c = λ told last headed.
     let past = c.recover.ensures.past told last in
     list_found _ (list_in (g.D.Disk.stands c.args.disk.now).seen) (c.in-Ok.ensures.listed told) (λ list is.
     (heads_then (own_header c.args.shape c.args.peer) c.args.watch.now c.recover.new.watch c.empty_log.new.watch (g.D.Disk.stands c.args.disk.now) (g.D.Disk.stands c.recover.new.disk) (g.D.Disk.stands c.empty_log.new.disk)
@@ -46,11 +46,14 @@ returns-in-Ok-clause-headed g c = λ told last lists leaves headed.
     })).keeps)
 
 pub returns-then-is_outside-clause-headed : goal.returns-then-is_outside-clause-headed
-returns-then-is_outside-clause-headed g c = λ told last lists leaves headed. c.recover.ensures.headed told last headed
+returns-then-is_outside-clause-headed g c = λ told last headed. c.recover.ensures.headed told last headed
 
 pub returns-else-is_outside-clause-headed : goal.returns-else-is_outside-clause-headed
-returns-else-is_outside-clause-headed g c = λ told last lists leaves headed.
-    not_refused c.args.shape c.args.peer (g.D.Disk.stands c.args.disk.now) lists c.in-Err.fault (g.met.D.Disk.stays told c.args.disk.now) leaves headed (c.in-Err.ensures.refused told) (c.is_outside.ensures.no c.if-is_outside.false)
+returns-else-is_outside-clause-headed g c = λ told last headed.
+    let past = c.recover.ensures.past told last in
+    let keeps = c.recover.ensures.headed told last headed in
+    header_then (own_header c.args.shape c.args.peer) c.args.watch.now c.recover.new.watch c.clear.new.watch (g.D.Disk.stands c.recover.new.disk) (g.D.Disk.stands c.clear.new.disk)
+    (c.clear.ensures.past told past.last) keeps (c.clear.ensures.headed told past.last keeps.standing)
 
 -- what is past of it stays
 

@@ -19,6 +19,7 @@ returns-clause-begins g c =
     (length-map c.read_store.new.disks f ∙ c.read_store.ensures.count ∙ sym (length-map c.args.disks.now f))
     (falls_within span.old span.new (λ peer low. c.read_store.ensures.counted peer (subst (λ n. peer < n) (length-map c.args.disks.now f) low)))
     (λ told peer found low refused. c.in-Ok.ensures.own told peer found (subst (λ n. peer < n) (length-map c.args.disks.now f) low) refused)
+    c.in-Ok.ensures.heads (λ peer low. c.read_store.ensures.headed peer (subst (λ n. peer < n) (length-map c.args.disks.now f) low))
     c.begun.ensures.logs c.begun.ensures.core c.begun.ensures.course
 
 pub returns-clause-closed : goal.returns-clause-closed

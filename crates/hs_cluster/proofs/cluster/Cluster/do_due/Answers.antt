@@ -1,8 +1,6 @@
 use Rattle.std.proofs.Common.{◌≡◌, Some, arith, map, refl, subst, sym, ap, inl}
 use Rattle.hs_cluster.proofs.CopyLemmas.{beside_same}
-use Rattle.hs_cluster.proofs.DiskLemmas.{since_of}
 use Rattle.hs_cluster.proofs.GrowingLemmas.{goes_as}
-use Rattle.hs_cluster.proofs.HeadLemmas.{heads_stay}
 use Rattle.hs_cluster.specs.Jobs.{StandsBeside}
 use Rattle.hs_core_words.specs.Looking.{first_job}
 use Rattle.hs_events.specs.Due.{peer_due}
@@ -77,13 +75,3 @@ returns-in-Nudging-clause-goes_on g c = λ told p apart.
 
 pub returns-in-Nudging-clause-joins : goal.returns-in-Nudging-clause-joins
 returns-in-Nudging-clause-joins g c = λ p apart. c.step-in-Nudging.ensures.joins p refl apart
-
-pub returns-in-Handling-clause-headed : goal.returns-in-Handling-clause-headed
-returns-in-Handling-clause-headed g c = λ told p apart header headed.
-    let f : g.row.D.Denot → DiskSeen = λ disk. seen_as (g.D.Disk.size disk) (g.D.Disk.stands disk) (g.D.Disk.faults disk) in
-    heads_stay header c.args.watch.now c.args.self.now.logs c.step.new.self.logs (map f c.args.disks.now) p (since_of f c.args.disks.now (g.met.D.Disk.since told) p) (λ keeping at. subst (λ l. log_at l p ≡ Some keeping) c.step.ensures.logs at) headed
-
-pub returns-in-Nudging-clause-headed : goal.returns-in-Nudging-clause-headed
-returns-in-Nudging-clause-headed g c = λ told p apart header headed.
-    let f : g.row.D.Denot → DiskSeen = λ disk. seen_as (g.D.Disk.size disk) (g.D.Disk.stands disk) (g.D.Disk.faults disk) in
-    heads_stay header c.args.watch.now c.args.self.now.logs c.step-in-Nudging.new.self.logs (map f c.args.disks.now) p (since_of f c.args.disks.now (g.met.D.Disk.since told) p) (λ keeping at. subst (λ l. log_at l p ≡ Some keeping) c.step-in-Nudging.ensures.logs at) headed

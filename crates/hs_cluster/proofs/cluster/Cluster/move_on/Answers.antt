@@ -1,8 +1,6 @@
 use Rattle.std.proofs.Common.{◌∙◌, ◌*◌, [], ap, arith, map, refl}
 use Rattle.std.specs.List.{range_with_len}
-use Rattle.hs_cluster.proofs.DiskLemmas.{since_of}
 use Rattle.hs_cluster.proofs.GrowingLemmas.{goes_same}
-use Rattle.hs_cluster.proofs.HeadLemmas.{heads_stay}
 use Rattle.hs_cluster.proofs.ShowLemmas.{any_shows, none_shows}
 use Rattle.hs_cluster.proofs.WalkLemmas.{nothing_due, raised_is}
 use Rattle.hs_cluster.specs.declared.fault.ClusterFault.TheVariants.{NoMemory}
@@ -36,8 +34,3 @@ pub returns-in_default-clause-goes_on : goal.returns-in_default-clause-goes_on
 returns-in_default-clause-goes_on g c = λ told p apart.
     let f : g.row.D.Denot → DiskSeen = λ disk. seen_as (g.D.Disk.size disk) (g.D.Disk.stands disk) (g.D.Disk.faults disk) in
     goes_same c.args.self.now.logs (map f c.args.disks.now) p
-
-pub returns-in_default-clause-headed : goal.returns-in_default-clause-headed
-returns-in_default-clause-headed g c = λ told p apart header headed.
-    let f : g.row.D.Denot → DiskSeen = λ disk. seen_as (g.D.Disk.size disk) (g.D.Disk.stands disk) (g.D.Disk.faults disk) in
-    heads_stay header c.args.watch.now c.args.self.now.logs c.args.self.now.logs (map f c.args.disks.now) p (since_of f c.args.disks.now (g.met.D.Disk.since told) p) (λ keeping at. at) headed

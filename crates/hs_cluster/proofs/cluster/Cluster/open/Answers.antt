@@ -1,7 +1,6 @@
 use Rattle.std.proofs.Common.{◌≡◌, ◌∙◌, ℕ, Some, false, map, sym}
 use Rattle.std.specs.Prelude.{Err}
 use Rattle.hs_cluster.proofs.CountLemmas.{falls_then}
-use Rattle.hs_cluster.proofs.DiskLemmas.{since_of}
 use Rattle.hs_cluster.proofs.GoingOnLemmas.{opens_found}
 use Rattle.hs_cluster.proofs.JoiningLemmas.{none_joins, opens_apart}
 use Rattle.hs_cluster.proofs.TurnedLemmas.{not_turned, opened, opens_so_far, turned}
@@ -22,7 +21,7 @@ returns-in-Some-clause-opened g c =
     let is : c.in-Ok.cluster.core.ended ≡ Some c.in-Some.fault = sym c.ended.ensures ∙ c.in-Some.is in
     opened g.D.Disk.tells set span c.in-Ok.cluster c.in-Ok.cluster (Err c.from.result) c.begin.new.watch (map f c.begin.new.disks) c.in-Ok.ensures.begins
     (not_turned g.D.Disk.tells c.begin.new.watch c.in-Ok.cluster (map f c.begin.new.disks) c.in-Some.fault c.from.result is c.from.ensures
-    (opens_so_far set.shape set.limits (opened_with c.in-Ok.ensures.begins.taken) c.begin.new.watch c.in-Ok.cluster.core c.in-Some.fault c.in-Ok.ensures.begins.core is) (λ told. since_of f c.begin.new.disks (g.met.D.Disk.since told)))
+    (opens_so_far set.shape set.limits (opened_with c.in-Ok.ensures.begins.taken) c.begin.new.watch c.in-Ok.cluster.core c.in-Some.fault c.in-Ok.ensures.begins.core is))
 
 pub returns-in-Some-clause-opens : goal.returns-in-Some-clause-opens
 returns-in-Some-clause-opens g c =
@@ -33,7 +32,7 @@ returns-in-Some-clause-opens g c =
     opens_found g.D.Disk.tells set span c.in-Ok.cluster (Err c.from.result)
     (opened g.D.Disk.tells set span c.in-Ok.cluster c.in-Ok.cluster (Err c.from.result) c.begin.new.watch (map f c.begin.new.disks) c.in-Ok.ensures.begins
     (not_turned g.D.Disk.tells c.begin.new.watch c.in-Ok.cluster (map f c.begin.new.disks) c.in-Some.fault c.from.result is c.from.ensures
-    (opens_so_far set.shape set.limits (opened_with c.in-Ok.ensures.begins.taken) c.begin.new.watch c.in-Ok.cluster.core c.in-Some.fault c.in-Ok.ensures.begins.core is) (λ told. since_of f c.begin.new.disks (g.met.D.Disk.since told))))
+    (opens_so_far set.shape set.limits (opened_with c.in-Ok.ensures.begins.taken) c.begin.new.watch c.in-Ok.cluster.core c.in-Some.fault c.in-Ok.ensures.begins.core is)))
 
 pub returns-clause-opened : goal.returns-clause-opened
 returns-clause-opened g c =
@@ -43,7 +42,7 @@ returns-clause-opened g c =
     let apart : (peer : ℕ) → is_joining (status_of peer c.in-Ok.cluster.core) ≡ false = λ peer. opens_apart set.shape set.limits (opened_with c.in-Ok.ensures.begins.taken) c.begin.new.watch peer c.in-Ok.cluster.core c.in-Ok.ensures.begins.core in
     let turns : Turns = record { before = c.begin.new.watch; now = c.settle-done.new.watch; old = c.in-Ok.cluster; new = c.settle-done.new.self; disks = map f c.begin.new.disks; left = map f c.settle-done.new.disks } in
     opened g.D.Disk.tells set span c.in-Ok.cluster c.settle-done.new.self c.settle-done.result c.begin.new.watch (map f c.begin.new.disks) c.in-Ok.ensures.begins
-    (turned g.D.Disk.tells turns c.settle-done.result (sym c.ended.ensures ∙ c.in-None.is) c.settle-done.ensures.walks (λ told peer. c.settle-done.ensures.goes_on told peer (apart peer)) (λ told peer header. c.settle-done.ensures.headed told peer (apart peer) header))
+    (turned g.D.Disk.tells turns c.settle-done.result (sym c.ended.ensures ∙ c.in-None.is) c.settle-done.ensures.walks (λ told peer. c.settle-done.ensures.goes_on told peer (apart peer)))
 
 pub returns-clause-opens : goal.returns-clause-opens
 returns-clause-opens g c =
@@ -54,7 +53,7 @@ returns-clause-opens g c =
     let turns : Turns = record { before = c.begin.new.watch; now = c.settle-done.new.watch; old = c.in-Ok.cluster; new = c.settle-done.new.self; disks = map f c.begin.new.disks; left = map f c.settle-done.new.disks } in
     opens_found g.D.Disk.tells set span c.settle-done.new.self c.settle-done.result
     (opened g.D.Disk.tells set span c.in-Ok.cluster c.settle-done.new.self c.settle-done.result c.begin.new.watch (map f c.begin.new.disks) c.in-Ok.ensures.begins
-    (turned g.D.Disk.tells turns c.settle-done.result (sym c.ended.ensures ∙ c.in-None.is) c.settle-done.ensures.walks (λ told peer. c.settle-done.ensures.goes_on told peer (apart peer)) (λ told peer header. c.settle-done.ensures.headed told peer (apart peer) header)))
+    (turned g.D.Disk.tells turns c.settle-done.result (sym c.ended.ensures ∙ c.in-None.is) c.settle-done.ensures.walks (λ told peer. c.settle-done.ensures.goes_on told peer (apart peer))))
 
 pub returns-clause-counted : goal.returns-clause-counted
 returns-clause-counted g c =

@@ -1,4 +1,4 @@
-use Rattle.std.proofs.Common.{◌≡◌, ◌≢◌, Some, ap, arith, false, map, refl, subst, sym, true}
+use Rattle.std.proofs.Common.{◌≡◌, ℕ, Some, ap, arith, false, map, refl, subst, sym, true}
 use Rattle.std.specs.Prelude.{IsSome, Ok, Option}
 use Rattle.hs_cluster.proofs.DiskLemmas.{since_of}
 use Rattle.hs_cluster.proofs.ShowLemmas.{does_same, job_cut, job_shows}
@@ -15,7 +15,6 @@ use Rattle.hs_core_words.specs.declared.event.Event.{Event}
 use Rattle.hs_core_words.specs.declared.event.Event.TheVariants as event
 use Rattle.hs_core_words.specs.Looking.{catalogue_of, first_job, home, status_of}
 use Rattle.hs_desk.specs.declared.job.Job.{Job}
-use Rattle.hs_desk.specs.declared.job.Job.TheVariants as job
 use Rattle.hs_entry.specs.declared.entry.Entry.{Entry}
 use Rattle.hs_events.specs.declared.due.Due.TheVariants.{Reporting}
 use Rattle.hs_events.specs.Due.{is_answer}
@@ -23,7 +22,6 @@ use Rattle.hs_fold.specs.Shards.Setting.{Numbered}
 use Rattle.hs_members.specs.Members.{is_joining}
 use Rattle.hs_peerlog.specs.Lists.{IsKept, Keeping}
 use Rattle.hs_ports.specs.Moments.{disk_at}
-use Rattle.hs_side.specs.declared.header.Header.{Header}
 use Rattle.hs_side.specs.Headers.{own_header}
 use Rattle.hs_cluster.proofs.cluster.Cluster.report.Goals as goal
 
@@ -52,7 +50,9 @@ returns-in_default-clause-does g c = λ line.
       disks = map f c.args.disks.now;
       left = map f c.do_job-done.new.disks;
     }) (first_job c.args.peer r.core) c.do_job-done.result) c.self.view_is (c.do_job-done.ensures.works told))
-    c.do_job-done.ensures.later)
+    c.do_job-done.ensures.later
+    (λ told. subst (λ (r : Running). (p : ℕ) → IsHeadedAt (own_header r.core.members.shape p) c.args.watch.now r.logs (map f c.args.disks.now) p
+    → StaysHeadedAt (own_header r.core.members.shape p) c.args.watch.now c.do_job-done.new.watch (map f c.args.disks.now) c.do_job-done.new.logs.items (map f c.do_job-done.new.disks) p) c.self.view_is (c.do_job-done.ensures.headed told)))
 
 pub returns-clause-does : goal.returns-clause-does
 returns-clause-does g c = λ line.
@@ -98,8 +98,8 @@ returns-clause-does g c = λ line.
       disks = map f c.args.disks.now;
       left = map f c.do_job-done.new.disks;
     }) (first_job c.args.peer r.core) (Ok c.in-Ok.done)) c.self.view_is (c.in-Ok.ensures.works told))
-    (λ told. subst (λ (r : Running). first_job c.args.peer r.core ≢ Some job.Reset → (header : Header) → IsHeadedAt header c.args.watch.now r.logs (map f c.args.disks.now) c.args.peer
-    → StaysHeadedAt header c.args.watch.now c.do_job-done.new.watch (map f c.args.disks.now) c.do_job-done.new.logs.items (map f c.do_job-done.new.disks) c.args.peer) c.self.view_is (c.do_job-done.ensures.heads told)))
+    (λ told. subst (λ (r : Running). (p : ℕ) → IsHeadedAt (own_header r.core.members.shape p) c.args.watch.now r.logs (map f c.args.disks.now) p
+    → StaysHeadedAt (own_header r.core.members.shape p) c.args.watch.now c.do_job-done.new.watch (map f c.args.disks.now) c.do_job-done.new.logs.items (map f c.do_job-done.new.disks) p) c.self.view_is (c.do_job-done.ensures.headed told)))
 
 pub returns-in_default-clause-beside : goal.returns-in_default-clause-beside
 returns-in_default-clause-beside g c =
@@ -124,16 +124,3 @@ returns-clause-goes_on g c = λ told p apart.
 
 pub returns-clause-joins : goal.returns-clause-joins
 returns-clause-joins g c = λ p apart. c.step.ensures.joins p refl (subst (λ (r : Running). is_joining (status_of p r.core) ≡ false) (sym c.self.view_is) apart)
-
-pub returns-in_default-clause-headed : goal.returns-in_default-clause-headed
-returns-in_default-clause-headed g c = λ told p apart header headed.
-    let f : g.row.D.Denot → DiskSeen = λ disk. seen_as (g.D.Disk.size disk) (g.D.Disk.stands disk) (g.D.Disk.faults disk) in
-    subst (λ (r : Running). is_joining (status_of p r.core) ≡ false → (header : Header) → IsHeadedAt header c.args.watch.now r.logs (map f c.args.disks.now) p
-    → StaysHeadedAt header c.args.watch.now c.do_job-done.new.watch (map f c.args.disks.now) c.do_job-done.new.logs.items (map f c.do_job-done.new.disks) p) c.self.view_is (c.do_job-done.ensures.headed told p) apart header headed
-
-pub returns-clause-headed : goal.returns-clause-headed
-returns-clause-headed g c = λ told p apart header headed.
-    let f : g.row.D.Denot → DiskSeen = λ disk. seen_as (g.D.Disk.size disk) (g.D.Disk.stands disk) (g.D.Disk.faults disk) in
-    subst (λ l. StaysHeadedAt header c.args.watch.now c.do_job-done.new.watch (map f c.args.disks.now) l (map f c.do_job-done.new.disks) p) (sym c.step.ensures.logs)
-    (subst (λ (r : Running). is_joining (status_of p r.core) ≡ false → (header : Header) → IsHeadedAt header c.args.watch.now r.logs (map f c.args.disks.now) p
-    → StaysHeadedAt header c.args.watch.now c.do_job-done.new.watch (map f c.args.disks.now) c.do_job-done.new.logs.items (map f c.do_job-done.new.disks) p) c.self.view_is (c.do_job-done.ensures.headed told p) apart header headed)

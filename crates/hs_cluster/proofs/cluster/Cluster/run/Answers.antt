@@ -1,8 +1,7 @@
 use Rattle.std.proofs.Common.{◌≡◌, Some, map, refl, subst, sym, ap, inl}
-use Rattle.hs_cluster.proofs.DiskLemmas.{always_ok, ready_fewer, since_of}
+use Rattle.hs_cluster.proofs.DiskLemmas.{always_ok, ready_fewer}
 use Rattle.hs_cluster.proofs.LineLemmas.{runs_any, runs_quiet, runs_settle}
 use Rattle.hs_cluster.proofs.GrowingLemmas.{goes_as, goes_fewer, goes_same}
-use Rattle.hs_cluster.proofs.HeadLemmas.{heads_stay}
 use Rattle.hs_cluster.proofs.JoiningLemmas.{starts_another}
 use Rattle.std.specs.Prelude.{⊤}
 use Rattle.hs_cluster.specs.Calls.{Does, RunsLine, done_of}
@@ -161,48 +160,3 @@ returns-in-Lose-clause-joins g c = λ p another apart. c.step-in-Lose.ensures.jo
 
 pub returns-in-Repeat-clause-joins : goal.returns-in-Repeat-clause-joins
 returns-in-Repeat-clause-joins g c = λ p another apart. c.step-in-Repeat.ensures.joins p refl apart
-
-pub returns-in-Client-clause-headed : goal.returns-in-Client-clause-headed
-returns-in-Client-clause-headed g c = λ told p apart header headed.
-    let f : g.row.D.Denot → DiskSeen = λ disk. seen_as (g.D.Disk.size disk) (g.D.Disk.stands disk) (g.D.Disk.faults disk) in
-    heads_stay header c.args.watch.now c.args.self.now.logs c.ask.new.self.logs (map f c.args.disks.now) p (since_of f c.args.disks.now (g.met.D.Disk.since told) p) (λ keeping at. subst (λ l. log_at l p ≡ Some keeping) c.ask.ensures.logs at) headed
-
-pub returns-in-Nudge-clause-headed : goal.returns-in-Nudge-clause-headed
-returns-in-Nudge-clause-headed g c = λ told p apart header headed.
-    let f : g.row.D.Denot → DiskSeen = λ disk. seen_as (g.D.Disk.size disk) (g.D.Disk.stands disk) (g.D.Disk.faults disk) in
-    heads_stay header c.args.watch.now c.args.self.now.logs c.step.new.self.logs (map f c.args.disks.now) p (since_of f c.args.disks.now (g.met.D.Disk.since told) p) (λ keeping at. subst (λ l. log_at l p ≡ Some keeping) c.step.ensures.logs at) headed
-
-pub returns-in-Deliver-clause-headed : goal.returns-in-Deliver-clause-headed
-returns-in-Deliver-clause-headed g c = λ told p apart header headed.
-    let f : g.row.D.Denot → DiskSeen = λ disk. seen_as (g.D.Disk.size disk) (g.D.Disk.stands disk) (g.D.Disk.faults disk) in
-    heads_stay header c.args.watch.now c.args.self.now.logs c.step-in-Deliver.new.self.logs (map f c.args.disks.now) p (since_of f c.args.disks.now (g.met.D.Disk.since told) p) (λ keeping at. subst (λ l. log_at l p ≡ Some keeping) c.step-in-Deliver.ensures.logs at) headed
-
-pub returns-in-Lose-clause-headed : goal.returns-in-Lose-clause-headed
-returns-in-Lose-clause-headed g c = λ told p apart header headed.
-    let f : g.row.D.Denot → DiskSeen = λ disk. seen_as (g.D.Disk.size disk) (g.D.Disk.stands disk) (g.D.Disk.faults disk) in
-    heads_stay header c.args.watch.now c.args.self.now.logs c.step-in-Lose.new.self.logs (map f c.args.disks.now) p (since_of f c.args.disks.now (g.met.D.Disk.since told) p) (λ keeping at. subst (λ l. log_at l p ≡ Some keeping) c.step-in-Lose.ensures.logs at) headed
-
-pub returns-in-Repeat-clause-headed : goal.returns-in-Repeat-clause-headed
-returns-in-Repeat-clause-headed g c = λ told p apart header headed.
-    let f : g.row.D.Denot → DiskSeen = λ disk. seen_as (g.D.Disk.size disk) (g.D.Disk.stands disk) (g.D.Disk.faults disk) in
-    heads_stay header c.args.watch.now c.args.self.now.logs c.step-in-Repeat.new.self.logs (map f c.args.disks.now) p (since_of f c.args.disks.now (g.met.D.Disk.since told) p) (λ keeping at. subst (λ l. log_at l p ≡ Some keeping) c.step-in-Repeat.ensures.logs at) headed
-
-pub returns-in-Start-clause-headed : goal.returns-in-Start-clause-headed
-returns-in-Start-clause-headed g c = λ told p apart header headed.
-    let f : g.row.D.Denot → DiskSeen = λ disk. seen_as (g.D.Disk.size disk) (g.D.Disk.stands disk) (g.D.Disk.faults disk) in
-    heads_stay header c.args.watch.now c.args.self.now.logs c.step-in-Start.new.self.logs (map f c.args.disks.now) p (since_of f c.args.disks.now (g.met.D.Disk.since told) p) (λ keeping at. subst (λ l. log_at l p ≡ Some keeping) c.step-in-Start.ensures.logs at) headed
-
-pub returns-in-Fail-clause-headed : goal.returns-in-Fail-clause-headed
-returns-in-Fail-clause-headed g c = λ told p apart header headed.
-    let f : g.row.D.Denot → DiskSeen = λ disk. seen_as (g.D.Disk.size disk) (g.D.Disk.stands disk) (g.D.Disk.faults disk) in
-    heads_stay header c.args.watch.now c.args.self.now.logs c.fail.new.self.logs (map f c.args.disks.now) p (since_of f c.args.disks.now (g.met.D.Disk.since told) p) (λ keeping at. c.fail.ensures.logs p keeping at) headed
-
-pub returns-in-Reclaim-clause-headed : goal.returns-in-Reclaim-clause-headed
-returns-in-Reclaim-clause-headed g c = λ told p apart header headed.
-    let f : g.row.D.Denot → DiskSeen = λ disk. seen_as (g.D.Disk.size disk) (g.D.Disk.stands disk) (g.D.Disk.faults disk) in
-    heads_stay header c.args.watch.now c.args.self.now.logs c.args.self.now.logs (map f c.args.disks.now) p (since_of f c.args.disks.now (g.met.D.Disk.since told) p) (λ keeping at. at) headed
-
-pub returns-in-Some-clause-headed : goal.returns-in-Some-clause-headed
-returns-in-Some-clause-headed g c = λ told p apart header headed.
-    let f : g.row.D.Denot → DiskSeen = λ disk. seen_as (g.D.Disk.size disk) (g.D.Disk.stands disk) (g.D.Disk.faults disk) in
-    heads_stay header c.args.watch.now c.args.self.now.logs c.args.self.now.logs (map f c.args.disks.now) p (since_of f c.args.disks.now (g.met.D.Disk.since told) p) (λ keeping at. at) headed

@@ -8,9 +8,7 @@ use Rattle.hs_cluster.specs.declared.fault.ClusterFault.{ClusterFault}
 use Rattle.hs_cluster.specs.Settling.{HasWalked, RunsWalk, due_with}
 use Rattle.std.proofs.lemmas.Result.{err_from_is_err_and}
 use Rattle.std.specs.Prelude.{Err, Ok}
-use Rattle.hs_cluster.proofs.DiskLemmas.{since_of}
 use Rattle.hs_cluster.proofs.GrowingLemmas.{goes_same, goes_then}
-use Rattle.hs_cluster.proofs.HeadLemmas.{heads_on, heads_stay}
 use Rattle.hs_cluster.proofs.ShowLemmas.{begin_shows, cut_shows, shows_then}
 use Rattle.hs_cluster.specs.declared.fault.ClusterFault.TheVariants.{NoMemory}
 use Rattle.hs_cluster.specs.Disks.{DiskSeen, seen_as}
@@ -46,9 +44,6 @@ loop-step-preserved g c =
           (Shows g.D.Disk.tells (record { before = c.args.watch.now; now = c.move_on.new.watch; old = c.args.self.now; new = new; disks = map f c.args.disks.now; left = map f c.move_on.new.disks }) (Ok tt))) (sym next)
           (one_more _ _ _ _ _ _ _ _ _ _ _ _ _ inv.walked is does (λ es fs d rise on one two. shows_then g.D.Disk.tells c.args.watch.now c.loop-step.watch c.move_on.new.watch c.args.self.now c.loop-step.self c.move_on.new.self (map f c.args.disks.now) (map f c.loop-step.disks) (map f c.move_on.new.disks) (Ok tt) es fs d rise on one two));
       goes_on = λ told p apart. goes_then c.args.self.now.logs here.logs new.logs (map f c.args.disks.now) (map f c.loop-step.disks) (map f c.move_on.new.disks) p (inv.goes_on told p apart) (c.move_on.ensures.goes_on told p (inv.joins p apart));
-      headed = λ told p apart header headed.
-          heads_on header c.args.watch.now c.loop-step.watch c.move_on.new.watch c.loop-step.self.logs c.move_on.new.self.logs (map f c.args.disks.now) (map f c.loop-step.disks) (map f c.move_on.new.disks) p
-          (inv.headed told p apart header headed) (λ mid. c.move_on.ensures.headed told p (inv.joins p apart) header mid);
       joins = λ p apart. c.in_ok-move_on.ensures.joins p (inv.joins p apart);
       going = still_going _ _ _ does.does;
       ready = c.in_ok-move_on.ensures.ready;
@@ -66,7 +61,6 @@ loop-step-init g c =
     record {
       walked = none_walked c.args.nudges c.args.line c.args.watch.now c.args.self.now _ c.requires.going (begin_shows g.D.Disk.tells c.args.watch.now c.args.self.now (map f c.args.disks.now));
       goes_on = λ told p apart. goes_same c.args.self.now.logs (map f c.args.disks.now) p;
-      headed = λ told p apart header headed. heads_stay header c.args.watch.now c.args.self.now.logs c.args.self.now.logs (map f c.args.disks.now) p (since_of f c.args.disks.now (g.met.D.Disk.since told) p) (λ keeping at. at) headed;
       joins = λ p apart. apart;
       going = c.requires.going;
       ready = c.requires.ready;
@@ -90,10 +84,3 @@ returns-in_err-move_on-clause-goes_on g c = λ told p apart.
     let f : g.row.D.Denot → DiskSeen = λ disk. seen_as (g.D.Disk.size disk) (g.D.Disk.stands disk) (g.D.Disk.faults disk) in
     let inv = c.loop-step.invariant in
     goes_then c.args.self.now.logs c.loop-step.self.logs c.move_on.new.self.logs (map f c.args.disks.now) (map f c.loop-step.disks) (map f c.move_on.new.disks) p (inv.goes_on told p apart) (c.move_on.ensures.goes_on told p (inv.joins p apart))
-
-pub returns-in_err-move_on-clause-headed : goal.returns-in_err-move_on-clause-headed
-returns-in_err-move_on-clause-headed g c = λ told p apart header headed.
-    let f : g.row.D.Denot → DiskSeen = λ disk. seen_as (g.D.Disk.size disk) (g.D.Disk.stands disk) (g.D.Disk.faults disk) in
-    let inv = c.loop-step.invariant in
-    heads_on header c.args.watch.now c.loop-step.watch c.move_on.new.watch c.loop-step.self.logs c.move_on.new.self.logs (map f c.args.disks.now) (map f c.loop-step.disks) (map f c.move_on.new.disks) p
-    (inv.headed told p apart header headed) (λ mid. c.move_on.ensures.headed told p (inv.joins p apart) header mid)

@@ -1,12 +1,10 @@
 use Rattle.std.proofs.Common.{◌≡◌, ◌*◌, ◌≤◌, ℕ, None, false, length, map}
 use Rattle.hs_cluster.specs.Disks.{AreReady, seen_as}
 use Rattle.hs_cluster.specs.Growing.{GoesOn}
-use Rattle.hs_cluster.specs.Headed.{IsHeadedAt, StaysHeadedAt}
 use Rattle.hs_cluster.specs.Kept.{Shows}
 use Rattle.hs_cluster.specs.Settling.{HasWalked}
 use Rattle.hs_core_words.specs.Looking.{status_of}
 use Rattle.hs_members.specs.Members.{is_joining}
-use Rattle.hs_side.specs.declared.header.Header.{Header}
 use Rattle.std.specs.Prelude.{Ok}
 use Rattle.hs_cluster.proofs.cluster.Cluster.settle.Given as goal
 
@@ -22,10 +20,6 @@ invariant-loop-step g l = record {
   }) (Ok tt));
   goes_on : g.D.Disk.tells → (p : ℕ) → is_joining (status_of p l.fn.self.core) ≡ false
       → GoesOn l.fn.self.logs (map (λ disk. seen_as (g.D.Disk.size disk) (g.D.Disk.stands disk) (g.D.Disk.faults disk)) l.fn.disks)
-      l.self.logs (map (λ disk. seen_as (g.D.Disk.size disk) (g.D.Disk.stands disk) (g.D.Disk.faults disk)) l.disks) p;
-  headed : g.D.Disk.tells → (p : ℕ) → is_joining (status_of p l.fn.self.core) ≡ false → (header : Header)
-      → IsHeadedAt header l.fn.watch l.fn.self.logs (map (λ disk. seen_as (g.D.Disk.size disk) (g.D.Disk.stands disk) (g.D.Disk.faults disk)) l.fn.disks) p
-      → StaysHeadedAt header l.fn.watch l.watch (map (λ disk. seen_as (g.D.Disk.size disk) (g.D.Disk.stands disk) (g.D.Disk.faults disk)) l.fn.disks)
       l.self.logs (map (λ disk. seen_as (g.D.Disk.size disk) (g.D.Disk.stands disk) (g.D.Disk.faults disk)) l.disks) p;
   joins : (p : ℕ) → is_joining (status_of p l.fn.self.core) ≡ false → is_joining (status_of p l.self.core) ≡ false;
   going : l.self.core.ended ≡ None;

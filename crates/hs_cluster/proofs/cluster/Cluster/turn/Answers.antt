@@ -2,11 +2,8 @@ use Rattle.std.proofs.Common.{◌≡◌, ◌∙◌, ◌∷◌, [], ap, arith, ma
 use Rattle.std.proofs.lemmas.Result.{err_from_is_err_and}
 use Rattle.std.specs.Prelude.{Err, Ok}
 use Rattle.hs_cluster.proofs.CopyLemmas.{beside_same, turn_of_peer, turn_same}
-use Rattle.hs_cluster.proofs.DiskLemmas.{since_of}
 use Rattle.hs_cluster.proofs.GrowingLemmas.{goes_as}
-use Rattle.hs_cluster.proofs.HeadLemmas.{heads_stay}
 use Rattle.hs_cluster.specs.Growing.{GoesOn}
-use Rattle.hs_cluster.specs.Headed.{IsHeadedAt, StaysHeadedAt}
 use Rattle.hs_cluster.specs.Jobs.{StandsBeside}
 use Rattle.hs_core_words.specs.Looking.{first_job}
 use Rattle.hs_core_words.specs.State.{Core}
@@ -109,19 +106,3 @@ returns-in-None-clause-joins g c = λ p apart. c.in_ok-step.ensures.joins p refl
 
 pub returns-in-Some-clause-joins : goal.returns-in-Some-clause-joins
 returns-in-Some-clause-joins g c = λ p apart. c.do_due.ensures.joins p (c.in_ok-step.ensures.joins p refl apart)
-
-pub returns-in_err-step-clause-headed : goal.returns-in_err-step-clause-headed
-returns-in_err-step-clause-headed g c = λ told p apart header headed.
-    let f : g.row.D.Denot → DiskSeen = λ disk. seen_as (g.D.Disk.size disk) (g.D.Disk.stands disk) (g.D.Disk.faults disk) in
-    heads_stay header c.args.watch.now c.args.self.now.logs c.step.new.self.logs (map f c.args.disks.now) p (since_of f c.args.disks.now (g.met.D.Disk.since told) p) (λ keeping at. subst (λ l. log_at l p ≡ Some keeping) c.step.ensures.logs at) headed
-
-pub returns-in-None-clause-headed : goal.returns-in-None-clause-headed
-returns-in-None-clause-headed g c = λ told p apart header headed.
-    let f : g.row.D.Denot → DiskSeen = λ disk. seen_as (g.D.Disk.size disk) (g.D.Disk.stands disk) (g.D.Disk.faults disk) in
-    heads_stay header c.args.watch.now c.args.self.now.logs c.step.new.self.logs (map f c.args.disks.now) p (since_of f c.args.disks.now (g.met.D.Disk.since told) p) (λ keeping at. subst (λ l. log_at l p ≡ Some keeping) c.step.ensures.logs at) headed
-
-pub returns-in-Some-clause-headed : goal.returns-in-Some-clause-headed
-returns-in-Some-clause-headed g c = λ told p apart header headed.
-    let f : g.row.D.Denot → DiskSeen = λ disk. seen_as (g.D.Disk.size disk) (g.D.Disk.stands disk) (g.D.Disk.faults disk) in
-    subst (λ l. IsHeadedAt header c.args.watch.now l (map f c.args.disks.now) p → StaysHeadedAt header c.args.watch.now c.do_due.new.watch (map f c.args.disks.now) c.do_due.new.self.logs (map f c.do_due.new.disks) p) c.step.ensures.logs
-    (c.do_due.ensures.headed told p (c.in_ok-step.ensures.joins p refl apart) header) headed
