@@ -152,7 +152,7 @@ module _ (c : Core) (machines : ℕ → Copies Entry) (w : AreInStep c machines)
   seated = record { lists = first.seated.groups; peers = first.stands.members.statuses; copies = let k = w.shape.some_copy in omega (arith, k) }
 
   -- a peer that has a job is one
-  peer_low : (p : ℕ) (task : Task) → first_task p c ≡ Some task → home p c < (shape_of c).shards
+  pub peer_low : (p : ℕ) (task : Task) → first_task p c ≡ Some task → home p c < (shape_of c).shards
   peer_low p task e = elim (cases_lt (home p c) (shape_of c).shards) [
     | inl low ↦ low
     | inr high ↦
