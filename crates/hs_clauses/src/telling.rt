@@ -1,14 +1,27 @@
 //! Reports tell the bytes of their blocks.
-ghost use Rattle.std.specs.Prelude.{◌≡◌, ◌++◌, ℕ, Bool, true, List};
+ghost use Rattle.std.specs.Prelude.{◌≡◌, ◌++◌, ◌<◌, ℕ, Bool, true, List};
 ghost use Rattle.hs_standing.specs.Answered.{KeepsRecordRoom, TellTheirBlocks};
-ghost use Rattle.hs_cluster.specs.Kept.{AreStored, AreTold};
+ghost use Rattle.hs_cluster.specs.Kept.{AreStored, AreTold, IsTold};
+ghost use Rattle.hs_copies.specs.Machine.{Copies};
+ghost use Rattle.hs_core_copies.specs.Lists.{numbered};
+ghost use Rattle.hs_core_words.specs.declared.event.Event.{Event};
+ghost use Rattle.hs_core_words.specs.Looking.{shape_of};
+ghost use Rattle.hs_entry.specs.declared.entry.Entry.{Entry};
+ghost use Rattle.hs_events.specs.Asked.{report_in};
 ghost use Rattle.hs_events.specs.Course.{steps};
 ghost use Rattle.hs_events.specs.Due.{Events, MomentsRise, is_walk, next_due};
 ghost use Rattle.hs_events.specs.Found.{Found, first_core};
 ghost use Rattle.hs_events.specs.Whole.{Whole, open_whole};
 ghost use Rattle.hs_standing.specs.Script.{AreLines, all_events};
 ghost use Rattle.hs_clauses.specs.Along.{AllCome};
-ghost use Rattle.hs_clauses.specs.Run.{IsReading, script_of};
+ghost use Rattle.hs_clauses.specs.Home.{AreAtHome};
+ghost use Rattle.hs_clauses.specs.Run.{IsReading, ReadStands, ReadsWhatIsSealed, script_of};
+ghost use Rattle.hs_fold.specs.Runs.Catalogue.{catalogue_of};
+ghost use Rattle.hs_fold.specs.Runs.Facts.{Catalogue as Folded};
+ghost use Rattle.hs_fold.specs.Runs.Fits.{catalogue_at};
+ghost use Rattle.hs_fold.specs.Shards.Setting.{shard_in};
+ghost use Rattle.hs_standing.specs.Coming.{ReportsBlocks};
+ghost use Rattle.hs_whole_copies.specs.Whole.{IsWholeInStep};
 ghost use Rattle.hs_standing.specs.Run.{RunOpens};
 ghost use Rattle.hs_standing.specs.Standing.{judging_of};
 ghost use Rattle.hs_standing.specs.Start.{Start};
@@ -32,6 +45,9 @@ use hs_told::answers_stay_in_order;
 /// its block, as the plain store has it then (`told`); and what a peer is to read is in what is sealed of
 /// its list, where its shard has a block by that number (`stored`). So it is of a script's run over sound
 /// lists, from opening on, also where the last line is cut short or the core ends (`script`, `wanted`).
+/// For any number of copies it is so of each event that comes to a core whose folds are those of what took
+/// effect, where a peer that is to read has that sealed (`report`); and so it does where its shard is in step
+/// with the machine of its copies (`copies`).
 pub fn each_report_tells_its_block()
     ensures told { (start : Start) (c : Whole) (events : Events)
         → IsReading start c → AllCome (judging_of start) c.core events
@@ -58,6 +74,15 @@ pub fn each_report_tells_its_block()
         → KeepsRecordRoom (first_core start.set found) (opening ++ all_events lines)
         → AreTold (open_whole start.set found) (opening ++ all_events lines) →
         AreStored (open_whole start.set found) (opening ++ all_events lines) }
+    ensures report { (start : Start) (c : Whole) (event : Event)
+        → ReadsWhatIsSealed start c → IsTold c (report_in event) →
+        ReportsBlocks (judging_of start) start.entry event c.core }
+    ensures copies { (start : Start) (c : Whole) (machines : ℕ → Copies Entry)
+        (folds : List Folded)
+        → IsWholeInStep c machines → ReadStands start c.core folds → AreAtHome c.core
+        → ((shard : ℕ) → shard < (shape_of c.core).shards → catalogue_at folds shard
+        ≡ catalogue_of (shard_in start.set shard) (numbered (machines shard).took)) →
+        ReadsWhatIsSealed start c }
 {
     a_step_that_answers_is_the_judges();
     an_answer_is_the_judges();

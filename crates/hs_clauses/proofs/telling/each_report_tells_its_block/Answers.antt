@@ -1,3 +1,5 @@
+use Rattle.hs_clauses.proofs.InStepReadLemmas.{in_step_reads}
+use Rattle.hs_clauses.proofs.TellLemmas.{reports_right}
 use Rattle.hs_clauses.proofs.RunLemmas.{all_stored, all_tell}
 use Rattle.hs_clauses.proofs.ScriptLemmas.{ScriptLaws, script_stored, script_tells}
 use Rattle.hs_clauses.proofs.telling.each_report_tells_its_block.Goals as goal
@@ -136,3 +138,9 @@ returns-clause-wanted c = λ start found past done opening lines to opens rise w
       asks = c.a_line_asks_as_its_command.ensures;
     } in
     script_stored below laws start found opens past done opening lines to rise walks are room told
+
+pub returns-clause-report : goal.returns-clause-report
+returns-clause-report c = λ start w event r told. reports_right start w r event told
+
+pub returns-clause-copies : goal.returns-clause-copies
+returns-clause-copies c = λ start w machines folds step holds at_home settled. in_step_reads start w machines step folds holds at_home settled
