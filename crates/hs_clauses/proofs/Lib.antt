@@ -46,3 +46,4 @@ pub mod TakenLemmas
 pub mod TellLemmas
 pub mod UnopenedLemmas
 pub mod WantLemmas
+pub mod WholeReadLemmas

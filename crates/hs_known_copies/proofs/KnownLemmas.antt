@@ -264,7 +264,7 @@ opens_along shape limits taken moment logs es may = go (open_core shape limits t
 -- ---- a store that opens over sound lists
 
 module _ (set : Setting) (found : Found) (o : OpensSoundly set found) where
-  whole_opens : MayOpenWhole set found
+  pub whole_opens : MayOpenWhole set found
   whole_opens = record { shape = o.shape; count = o.many; lists = o.lists; views = λ g low. opened_rises set found o.sound g low }
 
   pub soundly_knows : (es : Events) → AllKnowTheirCopies (first_core set found) es
