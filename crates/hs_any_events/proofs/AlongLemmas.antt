@@ -1,20 +1,18 @@
--- Behind each front of any events that its call takes a core is beside a steady one, also where it has ended with one of them.
-use Rattle.std.proofs.Common.{◌≡◌, ◌∙◌, sym, ap, subst, ℕ, zero, suc, ◌+◌, ◌<◌, ◌≤◌, Bool, true, false, cond, List, [], ◌∷◌, length, Option, Some, None, refl, arith, nat_lt, take}
+-- Behind any events that its call takes a core is beside a steady one, also where it has ended with one of them.
+use Rattle.std.proofs.Common.{◌≡◌, ◌∙◌, sym, ap, subst, ℕ, ◌+◌, ◌<◌, ◌≤◌, List, [], ◌∷◌, ◌++◌, Option, Some, None, refl, arith, take}
 use Rattle.std.specs.Option.{option_map}
 use Rattle.hs_answered.specs.Standing.{store_with}
 use Rattle.hs_any_events.proofs.BytesLemmas.{ReadsAnyBytes}
 use Rattle.hs_any_events.proofs.CodedHistoryLemmas.{base_is_above, base_of}
 use Rattle.hs_any_events.proofs.CodedLemmas.{Code, coded_gives, coded_name}
 use Rattle.hs_any_events.proofs.CodedOpeningLemmas.{beside_itself, steady_coded}
-use Rattle.hs_any_events.proofs.CodedRightLemmas.{stays_right, sweeps_so, swept_then}
+use Rattle.hs_any_events.proofs.CodedRightLemmas.{counted_so, sweeps_so}
 use Rattle.hs_any_events.proofs.CodedTableLemmas.{brought_by, is_tabled, table_of, table_whole}
 use Rattle.hs_any_events.proofs.CodedWalkLemmas.{IsCodedSteady, IsTabledLine, coded_new, views_coded, walks_coded}
-use Rattle.hs_any_events.proofs.OneEntryLemmas.{at_most_one}
 use Rattle.hs_any_events.proofs.RightLemmas.{ZerosBehind}
-use Rattle.hs_any_events.proofs.SinceLemmas.{Since, since_same, walks_since}
 use Rattle.hs_any_events.proofs.SteadyLemmas.{IsSteady}
 use Rattle.hs_anatomy.specs.Acts.{Acts, begun as begun_by}
-use Rattle.hs_any_events.specs.Events.{AreCountedRight, ComesNext, LineBringsAddress, MayStepAll, MayStep, StaysCountedRight, Sweeps, SweepsRight, any_lines}
+use Rattle.hs_any_events.specs.Events.{AreCountedRight, ComesNext, LineBringsAddress, Sweeps, SweepsRight, any_lines}
 use Rattle.hs_awaiting.specs.declared.waiting.Waiting.{Waiting}
 use Rattle.hs_core_words.specs.Calls.{IsNextLine, last_line_after}
 use Rattle.hs_core_words.specs.declared.event.Event.{Event}
@@ -22,7 +20,7 @@ use Rattle.hs_core_words.specs.declared.event.Event.TheVariants as event
 use Rattle.hs_core_words.specs.Looking.{group_of, operation_of, shape_of}
 use Rattle.hs_core_words.specs.Opening.{new_core}
 use Rattle.hs_core_words.specs.State.{Core}
-use Rattle.hs_core_words.specs.Step.{do_event, keep_entries, refuse_entries, step}
+use Rattle.hs_core_words.specs.Step.{step}
 use Rattle.hs_desk.specs.declared.done.Done.{Done}
 use Rattle.hs_desk.specs.declared.done.Done.TheVariants as done
 use Rattle.hs_desk.specs.declared.fault.CoreFault.{CoreFault}
@@ -32,8 +30,6 @@ use Rattle.hs_entry.specs.declared.entry.Entry.{Entry}
 use Rattle.hs_events.specs.Course.{steps}
 use Rattle.hs_events.specs.Due.{Events}
 use Rattle.hs_events.specs.Found.{Found, first_core, opens_with}
-use Rattle.hs_events.specs.Sane.{IsSane}
-use Rattle.hs_events.specs.Whole.{Whole, open_whole, step_whole}
 use Rattle.hs_fold.specs.Runs.Facts.{Catalogue as Folded}
 use Rattle.hs_fold.specs.Shards.Setting.{Setting}
 use Rattle.hs_laws.specs.Valid.{IsValid}
@@ -41,14 +37,11 @@ use Rattle.hs_limits.specs.declared.address.Address.{Address}
 use Rattle.hs_limits.specs.declared.limits.Limits.{Limits}
 use Rattle.hs_model.proofs.Members.{Member, member-append_left, member-append_right}
 use Rattle.hs_model.specs.declared.command.Command.{Command}
-use Rattle.hs_moments.proofs.AloneEventLemmas.{begun, step_is}
 use Rattle.hs_moments.proofs.CoreLemmas.{line_at}
-use Rattle.hs_moments.proofs.SaneLemmas.{sane_stays}
 use Rattle.hs_replica.specs.Group.{committed}
 use Rattle.hs_settled.proofs.DeletesCountLemmas.{CountLaws}
-use Rattle.hs_settled.proofs.DeletesEndLemmas.{does_keep}
 use Rattle.hs_settled.proofs.DeletesRunLemmas.{steps_ended}
-use Rattle.hs_standing.proofs.AlongWalkLemmas.{acts_keep_it, along, come_front, copies_step, knows_begun, seated_begun, walks_step}
+use Rattle.hs_standing.proofs.AlongWalkLemmas.{acts_keep_it, along, come_front, copies_step, knows_begun, seated_begun}
 use Rattle.hs_standing.proofs.FewLemmas.{takes_few}
 use Rattle.hs_standing.proofs.LegalOpenLemmas.{folds_valid, opened}
 use Rattle.hs_standing.proofs.Laws.{Entries, Steps}
@@ -56,11 +49,11 @@ use Rattle.hs_standing.proofs.ValidLemmas.{told_valid}
 use Rattle.hs_standing.specs.Copies.{AllComeOn, ComesOn}
 use Rattle.hs_standing.specs.Held.{GivesAddresses}
 use Rattle.hs_standing.specs.Opens.{MayOpen}
-use Rattle.hs_standing.specs.Run.{IsRunning, RunStands}
+use Rattle.hs_standing.specs.Run.{RunStands}
 use Rattle.hs_standing.specs.Standing.{judging_of}
 use Rattle.hs_standing.specs.Start.{Start}
 use Rattle.hs_standing.specs.Telling.{told_so_far}
-use Rattle.hs_standing.specs.Walks.{HasRecordRoom, MayEvent, MayReport}
+use Rattle.hs_standing.specs.Walks.{MayEvent, MayReport}
 use Rattle.hs_told.proofs.OpenedLemmas.{opened_turn}
 use Rattle.hs_told.specs.InTurn.{IsInTurn}
 
@@ -74,13 +67,6 @@ pub record LawsBelow : Type 0 where
 -- a core is beside one that is steady up to its last line
 abbrev pub Steady : Code → Limits → Core → Type 0
 Steady code limits core = IsCodedSteady code limits core.progress.last_line core
-
--- so is one between two events, on a sane store, where the root records are few and the journal had room so far
-pub record StaysSteady (code : Code) (limits : Limits) (c : Whole) : Type 0 where
-  pub sane : IsSane c
-  pub few : HasRecordRoom c.core
-  pub clean : c.core.refused ≡ []
-  pub steady : Steady code limits c.core
 
 -- ---- as a core opens
 
@@ -122,30 +108,6 @@ module _ (start : Start) (core : Core) (cs : List Folded) (its : RunStands start
 -- no line was begun as it opens
 none_begun : (core : Core) → IsInTurn (λ n. None) core → (line : ℕ) (w : Waiting) → operation_of line core ≡ Some w → ⊥
 none_begun core turn line w at = cc (turn.turns.asked line w.operation.op (ap (λ (y : Option Waiting). option_map (λ (u : Waiting). u.operation.op) y) at)).named
-
-module _ (start : Start) (found : Found) (r : IsRunning start (open_whole start.set found)) where
-  abbrev first : Core
-  first = first_core start.set found
-
-  turn : IsInTurn (λ n. None) (first_core start.set found)
-  turn = opened_turn (λ n. None) start.set.shape start.set.limits (opens_with start.set found) found.opened refl
-
-  idle : (line : ℕ) (w : Waiting) → operation_of line first ≡ Some w → ⊥
-  idle = none_begun first turn
-
-  abbrev pub opening_code : Events → Code
-  opening_code events = record { name = start.set.name; base = base_of r.stands.holds.lawful.lawful.history; table = table_of events }
-
-  pub opens_coded : (events : Events) → StaysSteady (opening_code events) start.set.limits (open_whole start.set found)
-  opens_coded events = record {
-    sane = r.stands.whole.sane;
-    few = r.stands.whole.few;
-    clean = turn.going r.stands.whole.sane.going;
-    steady = stands_coded start first r.stands.whole.cs r.stands.holds r.valid idle events;
-  }
-
-  pub opening_gives : GivesAddresses start.set.name → (events : Events) → GivesAddresses (coded_name (opening_code events))
-  opening_gives names events = coded_gives (opening_code events) names (table_whole events)
 
 -- ---- one event
 
@@ -224,17 +186,10 @@ module _ (code : Code) (limits : Limits) (core : Core) (its : Steady code limits
   may_event (event.Fail line peer) next given within = tt
   may_event (event.Start line peer) next given within = tt
 
--- a core that goes on has refused nothing
-still_clean : (e : Event) (at : ℕ) (core : Core) → core.ended ≡ None → (step e at core).ended ≡ None → core.refused ≡ [] → (step e at core).refused ≡ []
-still_clean e at core going then clean =
-    ap (λ (x : Core). x.refused) (step_is e at core going)
-    ∙ by_room (nat_lt (do_event e (begun e at core)).limits.ops (length (do_event e (begun e at core)).journal + length (do_event e (begun e at core)).entries))
-    (sym (ap (λ (x : Core). x.ended) (step_is e at core going)) ∙ then)
-  where
-    by_room : (full : Bool) → (cond full (refuse_entries (do_event e (begun e at core))) (keep_entries (do_event e (begun e at core)))).ended ≡ None
-        → (cond full (refuse_entries (do_event e (begun e at core))) (keep_entries (do_event e (begun e at core)))).refused ≡ []
-    by_room true over = absurd (cc over)
-    by_room false over = (does_keep e (begun e at core)).refused ∙ clean
+-- of some and one more it comes behind them
+come_last : (es : Events) (e : Event × ℕ) (c : Core) → AllComeOn ComesNext c (es ++ e ∷ []) → AllComeOn ComesNext c es × ((steps c es).ended ≡ None → ComesOn ComesNext e.0 (steps c es))
+come_last [] e c come = (tt, come.0)
+come_last (x ∷ es) e c come = let rest = come_last es e (step x.0 x.1 c) come.1 in ((come.0, rest.0), rest.1)
 
 -- the addresses of each are of the table
 abbrev pub ComesWithin : Code → Event → Core → Type 0
@@ -248,8 +203,6 @@ all_within code (e ∷ es) c come within = (
 )
 
 module _ (below : LawsBelow) (code : Code) (names : GivesAddresses (coded_name code)) (limits : Limits) where
-  -- ---- with any number of copies
-
   next_of : (e : Event) (at : ℕ) (c : Core) → c.ended ≡ None → c.refused ≡ [] → c.entries ≡ [] → ComesOn (ComesWithin code) e c → Steady code limits c → Steady code limits (step e at c)
   next_of e at c going clean told come s =
       let last : ℕ = last_line_after e c in
@@ -261,71 +214,7 @@ module _ (below : LawsBelow) (code : Code) (names : GivesAddresses (coded_name c
   pub all_steady : (es : Events) (c : Core) → c.refused ≡ [] → c.entries ≡ [] → AllComeOn (ComesWithin code) c es → Steady code limits c → Steady code limits (steps c es)
   all_steady es c clean told come s = along (ComesWithin code) (λ (x : Core). Steady code limits x) next_of es c clean told come s
 
-  -- ---- with one copy a shard
-
-  -- behind the event it is steady up to its line, and of a shard it is known what came since
-  next_since : (c : Whole) (e : Event) (at : ℕ) → StaysSteady code limits c → MayStep c.core e at → IsWithin code (brought_by e) → (shard : ℕ)
-      → IsCodedSteady code limits (last_line_after e c.core) (step e at c.core) × Since shard c.core (step e at c.core)
-  next_since c e at s may within shard =
-      walks_step (walks_since (walks_coded below.views below.steps below.reads below.laws code names limits (last_line_after e c.core)) shard c.core) c e at s.sane s.few s.clean (may_event code limits c.core s.steady e may.next may.given within) (
-        line_more code limits c.core s.steady e may.next,
-        since_same shard c.core,
-      )
-
-  next_steady : (c : Whole) (e : Event) (at : ℕ) → StaysSteady code limits c → MayStep c.core e at → IsWithin code (brought_by e) → Steady code limits (step e at c.core)
-  next_steady c e at s may within = subst (λ (last : ℕ). IsCodedSteady code limits last (step e at c.core)) (sym (line_at c.core e at s.sane.going)) (next_since c e at s may within 0).0
-
-  stays_steady : (c : Whole) (e : Event) (at : ℕ) → StaysSteady code limits c → MayStep c.core e at → IsWithin code (brought_by e) → (step e at c.core).ended ≡ None → StaysSteady code limits (step_whole e at c)
-  stays_steady c e at s may within going = record {
-    sane = sane_stays c e at s.sane going;
-    few = may.room going;
-    clean = still_clean e at c.core s.sane.going going s.clean;
-    steady = next_steady c e at s may within;
-  }
-
-  -- ---- each front
-
-  module _ (laws : CountLaws) (zeros : ZerosBehind) where
-    -- behind it, and the event that comes next
-    right_next : (c : Whole) (e : Event) (at : ℕ) → StaysSteady code limits c → MayStep c.core e at → IsWithin code (brought_by e) → StaysCountedRight c.core (step e at c.core)
-    right_next c e at s may within =
-        stays_right code limits c.core.progress.last_line c.core s.steady laws zeros names (step e at c.core) (λ shard low sweeps.
-        swept_then code limits c.core.progress.last_line c.core s.steady laws zeros s.few (step e at c.core) shard (at_most_one c e at s.sane shard low) sweeps (next_since c e at s may within shard).1)
-
-    -- or where none comes
-    pub right_last : (core : Core) → Steady code limits core → StaysCountedRight core core
-    right_last core s = stays_right code limits core.progress.last_line core s laws zeros names core (λ shard low sweeps. absurd (sweeps refl))
-
-    along_right : (es : Events) (c : Whole) → StaysSteady code limits c → MayStepAll c.core es → IsWithin code (table_of es) → (n : ℕ) → StaysCountedRight (steps c.core (take n es)) (steps c.core (take (suc n) es))
-    along_right [] c s may within zero = right_last c.core s.steady
-    along_right [] c s may within (suc n) = right_last c.core s.steady
-    along_right (e ∷ es) c s may within zero = right_next c e.0 e.1 s (may.0 s.sane.going) (λ a h. within a (member-append_left a (brought_by e.0) (table_of es) h))
-    along_right (e ∷ es) c s may within (suc n) =
-        by_end (λ stays. along_right es (step_whole e.0 e.1 c) stays may.1 (λ a h. within a (member-append_right a (brought_by e.0) (table_of es) h)) n) (step e.0 e.1 c.core).ended refl
-      where
-        m : MayStep c.core e.0 e.1
-        m = may.0 s.sane.going
-
-        here : IsWithin code (brought_by e.0)
-        here a h = within a (member-append_left a (brought_by e.0) (table_of es) h)
-
-        next : Core
-        next = step e.0 e.1 c.core
-
-        -- a core that has ended goes on with no event
-        by_end : (StaysSteady code limits (step_whole e.0 e.1 c) → StaysCountedRight (steps (step e.0 e.1 c.core) (take n es)) (steps (step e.0 e.1 c.core) (take (suc n) es)))
-            → (x : Option CoreFault) → (step e.0 e.1 c.core).ended ≡ x → StaysCountedRight (steps (step e.0 e.1 c.core) (take n es)) (steps (step e.0 e.1 c.core) (take (suc n) es))
-        by_end later None going = later (stays_steady c e.0 e.1 s m here going)
-        by_end later (Some fault) over =
-            subst (λ (x : Core). StaysCountedRight x (steps next (take (suc n) es))) (sym (steps_ended next (take n es) fault over))
-            (subst (λ (x : Core). StaysCountedRight next x) (sym (steps_ended next (take (suc n) es) fault over)) (right_last next (next_steady c e.0 e.1 s m here)))
-
-    pub front_right : (es : Events) (c : Whole) → StaysSteady code limits c → MayStepAll c.core es → IsWithin code (table_of es) → (n : ℕ) → StaysCountedRight (steps c.core (take n es)) (steps c.core (take (n + 1) es))
-    front_right es c s may within n =
-        let next : suc n ≡ n + 1 = omega arith in
-        subst (λ k. StaysCountedRight (steps c.core (take n es)) (steps c.core (take k es))) next (along_right es c s may within n)
-
--- ---- with any number of copies, from opening on
+-- ---- from opening on
 
 module _ (below : LawsBelow) (set : Setting) (found : Found) (cs : List Folded) (names : GivesAddresses set.name) (may : MayOpen (any_lines set) set.shape (opens_with set found) found.opened cs) where
   abbrev start_of : Start
@@ -364,9 +253,8 @@ module _ (below : LawsBelow) (set : Setting) (found : Found) (cs : List Folded) 
   module _ (laws : CountLaws) (zeros : ZerosBehind) where
     pub copies_right : (es : Events) → AllComeOn ComesNext opens es → (n : ℕ) → AreCountedRight (steps opens (take n es))
     copies_right es come n =
-        let so : StaysCountedRight (steps opens (take n es)) (steps opens (take n es)) =
-        right_last below (code_of (take n es)) (given_of (take n es)) set.limits laws zeros (steps opens (take n es)) (behind_of (take n es) (take n es) (come_front ComesNext n es opens come) (λ a m. m)) in
-        record { naming = so.naming; names = so.names; counts = so.counts; zeros = so.zeros }
+        counted_so (code_of (take n es)) set.limits (steps opens (take n es)).progress.last_line (steps opens (take n es))
+        (behind_of (take n es) (take n es) (come_front ComesNext n es opens come) (λ a m. m)) laws zeros (given_of (take n es))
 
     -- an entry takes effect by the event that comes next, where the addresses of all these are among those of a table
     sweeps_by : (table es : Events) (e : Event) (at : ℕ) → IsWithin (code_of table) (table_of es) → IsWithin (code_of table) (brought_by e) → AllComeOn ComesNext opens es → ComesOn ComesNext e (steps opens es)
@@ -385,7 +273,8 @@ module _ (below : LawsBelow) (set : Setting) (found : Found) (cs : List Folded) 
             (views_coded below.views below.steps below.reads below.laws (code_of table) (given_of table) set.limits (last_line_after e (steps opens es)) (shape_of (steps opens es))) e at comes.seated comes.known comes.room
             (may_event (code_of table) set.limits (steps opens es) steady e comes.may.next comes.may.given brings) (line_more (code_of table) set.limits (steps opens es) steady e comes.may.next) reached xs
 
-    pub sweeps_right : (es : Events) (e : Event) (at : ℕ) → AllComeOn ComesNext opens es → ComesOn ComesNext e (steps opens es) → (reached : Core) → Acts (begun_by e at (steps opens es)) (Some e) reached
+    pub sweeps_right : (es : Events) (e : Event) (at : ℕ) → AllComeOn ComesNext opens (es ++ (e, at) ∷ []) → (steps opens es).ended ≡ None → (reached : Core) → Acts (begun_by e at (steps opens es)) (Some e) reached
         → (shard number : ℕ) (entry : Entry) → committed (group_of shard reached) ≡ Some (number, entry) → Sweeps shard reached (taken shard entry reached) → SweepsRight shard entry reached
-    sweeps_right es e at come comes =
-        sweeps_by ((e, at) ∷ es) es e at (λ a m. member-append_right a (brought_by e) (table_of es) m) (λ a m. member-append_left a (brought_by e) (table_of es) m) come comes
+    sweeps_right es e at come going =
+        sweeps_by ((e, at) ∷ es) es e at (λ a m. member-append_right a (brought_by e) (table_of es) m) (λ a m. member-append_left a (brought_by e) (table_of es) m) (come_last es (e, at) opens come).0
+        ((come_last es (e, at) opens come).1 going)

@@ -1,5 +1,5 @@
 -- The counts of a core that is beside a steady one are right, and so are its zero blocks by the naming of that.
-use Rattle.std.proofs.Common.{◌≡◌, ◌≢◌, ◌∙◌, sym, ap, subst, ◌⊎◌, inl, inr, ℕ, ◌+◌, ◌<◌, ◌≤◌, false, length, List, Option, Some, None, refl, slice_get, slice_index_or, slice_set, arith}
+use Rattle.std.proofs.Common.{◌≡◌, ◌≢◌, ◌∙◌, sym, ap, subst, ◌⊎◌, inl, inr, ℕ, ◌+◌, ◌<◌, ◌≤◌, false, length, List, Option, Some, None, refl, slice_get, slice_index_or, slice_set}
 use Rattle.std.proofs.lemmas.Option.{slice_get-map}
 use Rattle.std.specs.Option.{option_map}
 use Rattle.hs_any_events.proofs.CodedCoreLemmas.{same_front, same_limits, waiting_alike}
@@ -9,14 +9,10 @@ use Rattle.hs_any_events.proofs.CodedLemmas.{Code, coded_name}
 use Rattle.hs_any_events.proofs.CodedPoolLemmas.{all_alike}
 use Rattle.hs_any_events.proofs.CodedWalkLemmas.{IsCodedSteady, few_there}
 use Rattle.hs_any_events.proofs.RightLemmas.{ZerosBehind, counts_right, zeros_now}
-use Rattle.hs_any_events.proofs.FewLemmas.{few_behind}
-use Rattle.hs_any_events.proofs.OneEntryLemmas.{AtMostOne}
-use Rattle.hs_any_events.proofs.SinceLemmas.{HasSweptBy, Since, TookOne, WaitedFirst}
-use Rattle.hs_any_events.proofs.SweptLemmas.{IsRound, round_called, round_named, round_no_block, round_or_same, round_sweeps, sweeps_up_to}
-use Rattle.hs_any_events.specs.Events.{StaysCountedRight, Sweeps, SweepsRight}
+use Rattle.hs_any_events.proofs.SweptLemmas.{IsRound, round_called, round_no_block, round_or_same, round_sweeps, sweeps_up_to}
+use Rattle.hs_any_events.specs.Events.{AreCountedRight, Sweeps, SweepsRight}
 use Rattle.hs_core_words.specs.Looking.{catalogue_of, front_of, group_of, shape_of}
 use Rattle.hs_core_words.specs.Pending.{named}
-use Rattle.hs_core_words.specs.Records.{HasRecordRoom}
 use Rattle.hs_core_words.specs.State.{Core}
 use Rattle.hs_effects.specs.Lawful.{IsLawful, MayFollow}
 use Rattle.hs_effects.proofs.GroupLemmas.{committed_first, set_at}
@@ -35,8 +31,6 @@ use Rattle.hs_replica.specs.Group.{committed}
 use Rattle.hs_replica.specs.Kinds.{is_block}
 use Rattle.hs_rounds.specs.declared.body.RoundBody.{RoundBody}
 use Rattle.hs_rounds.specs.declared.place.Place.{Place}
-use Rattle.hs_shard.specs.Apply.{apply}
-use Rattle.hs_shard.specs.Clients.{Applied}
 use Rattle.hs_shard.specs.Facts.{Catalogue, empty_catalogue}
 use Rattle.hs_settled.proofs.DeletesCountLemmas.{CountLaws}
 use Rattle.hs_standing.proofs.AtomLemmas.{set_on}
@@ -174,45 +168,11 @@ module _ (code : Code) (limits : Limits) (last : ℕ) (core : Core) (s : IsCoded
         let its = swept_by shard number entry next few sweeps in
         record { naming = name; names = names; zeros = record { folds = cs; lawful = lawful_here; now = right }; upto = its.0; exact = its.1 }
 
-    -- so it is by an event by which at most one entry of the shard took effect
-    module _ (room : HasRecordRoom core) (after : Core) (shard : ℕ) (most : AtMostOne shard core after) (sweeps : Sweeps shard core after) where
-      -- that entry waited first
-      waited : (t : TookOne shard core after) → AtMostOne shard core after → WaitedFirst shard core t.entry → slice_get (group_of shard core).waiting 0 ≡ Some t.entry
-      waited t some (inr first) = first
-      waited t (inl same) (inl none) = let one = t.front in absurd (omega (arith, same, one))
-      waited t (inr one) (inl none) = let some = one.waits in let zero_is : length (group_of shard core).waiting ≡ 0 = ap (λ ws. length ws) none in absurd (omega (arith, some, zero_is))
-
-      by_entry : (t : TookOne shard core after) (swept : HasSweptBy shard core after t.entry)
-          → IsRound t.entry ⊎ ((apply (front_of shard core + 1) t.entry swept.0 (catalogue_of shard core)).catalogue.swept ≡ (catalogue_of shard core).swept)
-          → ((catalogue_of shard after).swept ≡ (catalogue_of shard core).epoch) × EachUnreachedIsZero s.steady.0 shard
-      by_entry t swept (inr same) = absurd (sweeps (swept.1 ∙ same))
-      by_entry t swept (inl is) = (left ∙ its.0, its.1)
-        where
-          left : (catalogue_of shard after).swept ≡ (done_by shard t.entry core).catalogue.swept
-          left = swept.1 ∙ ap (λ (a : Applied). a.catalogue.swept) (round_named (front_of shard core + 1) t.entry swept.0 (named t.entry core) (catalogue_of shard core) is)
-
-          its : ((done_by shard t.entry core).catalogue.swept ≡ (catalogue_of shard core).epoch) × EachUnreachedIsZero s.steady.0 shard
-          its = swept_here shard t.entry is (few_behind core room shard t.entry is) (waited t most t.first) (λ same. sweeps (left ∙ same))
-
-      pub swept_then : Since shard core after → ((catalogue_of shard after).swept ≡ (catalogue_of shard core).epoch) × EachUnreachedIsZero s.steady.0 shard
-      swept_then (inl u) = absurd (sweeps (ap (λ (k : Catalogue). k.swept) u.catalogue))
-      swept_then (inr (inl t)) = elim t.swept [
-        | inl same ↦ absurd (sweeps same)
-        | inr swept ↦ by_entry t swept (round_or_same (front_of shard core + 1) t.entry swept.0 (catalogue_of shard core))
-      ]
-      swept_then (inr (inr m)) = elim most [
-        | inl same ↦ let up = m.front in absurd (omega (arith, same, up))
-        | inr one ↦ let up = m.front in let is = one.front in absurd (omega (arith, is, up))
-      ]
-
-    -- so it is behind a front, where what comes next is such an event, or changes nothing
-    pub stays_right : GivesAddresses (coded_name code) → (after : Core)
-        → ((shard : ℕ) → shard < (shape_of core).shards → Sweeps shard core after → ((catalogue_of shard after).swept ≡ (catalogue_of shard core).epoch) × EachUnreachedIsZero s.steady.0 shard)
-        → StaysCountedRight core after
-    stays_right names after exact = record {
+    -- so are its counts, by that naming
+    pub counted_so : GivesAddresses (coded_name code) → AreCountedRight core
+    counted_so names = record {
       naming = name;
       names = names;
       counts = counts_right laws zeros name core cs lawful_here sent_here;
       zeros = record { folds = cs; lawful = lawful_here; now = right };
-      exact = exact;
     }

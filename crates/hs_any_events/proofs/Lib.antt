@@ -16,12 +16,10 @@ pub mod CodedStepLemmas
 pub mod CodedTableLemmas
 mod CodedViewLemmas
 pub mod CodedWalkLemmas
-pub mod FewLemmas
 pub mod GivenLemmas
-pub mod OneEntryLemmas
 pub mod OpeningLemmas
 pub mod RefusedLemmas
 pub mod RightLemmas
-pub mod SinceLemmas
 pub mod SteadyLemmas
-pub mod SweptLemmas
+pub mod SweepLemmas
+mod SweptLemmas

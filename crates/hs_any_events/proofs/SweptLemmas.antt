@@ -92,19 +92,6 @@ round_or_same number (kind.KeptRoot created dropped counted a key) address c = i
 round_or_same number (kind.KeptRound way other epoch round total deltas) address c = inr refl
 
 -- of these no address comes
-pub round_named : (number : ℕ) (entry : Entry) (address other : Option Address) (c : Catalogue) → IsRound entry → apply number entry address c ≡ apply number entry other c
-round_named number (kind.Enter op epoch) address other c is = refl
-round_named number (kind.Got from epoch round total deltas) address other c is = refl
-round_named number (kind.View view) address other c is = absurd is
-round_named number (kind.Block op least bytes) address other c is = absurd is
-round_named number (kind.Mark op least block a) address other c is = absurd is
-round_named number (kind.Root op held a key) address other c is = absurd is
-round_named number (kind.Drop op key) address other c is = absurd is
-round_named number (kind.Base view epoch swept round frames) address other c is = absurd is
-round_named number (kind.KeptBlock born mark flags count bytes) address other c is = absurd is
-round_named number (kind.KeptRoot created dropped counted a key) address other c is = absurd is
-round_named number (kind.KeptRound way of epoch round total deltas) address other c is = absurd is
-
 pub round_called : (name : List ℕ → Address) (core : Core) (entry : Entry) → IsRound entry → IsNamed name entry core
 round_called name core (kind.Enter op epoch) is = refl
 round_called name core (kind.Got from epoch round total deltas) is = refl

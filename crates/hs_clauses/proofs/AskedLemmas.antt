@@ -1,5 +1,5 @@
 -- Of a run that is shown whole, over sound disks, whose core goes on behind its opening: all that is asked of it follows, so that it runs soundly.
-use Rattle.std.proofs.Common.{◌≡◌, ap, sym, subst, ℕ, zero, suc, ◌+◌, ◌<◌, ◌≤◌, ◌++◌, Bool, true, false, List, [], Option, Some, None, refl, map, arith}
+use Rattle.std.proofs.Common.{◌≡◌, ◌∙◌, ap, sym, subst, ℕ, zero, suc, ◌+◌, ◌<◌, ◌≤◌, ◌++◌, Bool, true, false, List, [], ◌∷◌, Option, Some, None, refl, map, arith}
 use Rattle.std.specs.List.{AllByRecursion, range_with_len}
 use Rattle.std.specs.Prelude.{unwrap_or}
 use Rattle.hs_standing.specs.Walks.{HasRecordRoom}
@@ -9,9 +9,11 @@ use Rattle.hs_clauses.proofs.ListLemmas.{lists_are, opened_is}
 use Rattle.hs_clauses.proofs.ReadLemmas.{BringsAll, applied_all, from_empty, read_brings, read_from_one}
 use Rattle.hs_clauses.proofs.RoomLemmas.{keeps_room}
 use Rattle.hs_clauses.specs.Asked.{lined, start_of}
-use Rattle.hs_clauses.specs.Shown.{IsShown, OnDisks, RunsSoundly}
+use Rattle.hs_clauses.specs.Shown.{IsShown, OnDisks, RunsSoundly, RunsTold}
 use Rattle.hs_cluster.proofs.OpeningMoves.{all_good}
 use Rattle.hs_cluster.specs.Kept.{AreTold}
+use Rattle.hs_core_words.specs.State.{Core}
+use Rattle.hs_desk.specs.declared.fault.CoreFault.{CoreFault}
 use Rattle.hs_events.specs.Course.{steps}
 use Rattle.hs_events.specs.Due.{Events, MomentsRise, is_walk, next_due}
 use Rattle.hs_events.specs.Found.{Found, first_core, opened_catalogue, opened_list, opens_with, starts_good}
@@ -34,10 +36,13 @@ use Rattle.hs_clauses.specs.Run.{script_of}
 use Rattle.hs_shard.specs.Facts.{Catalogue, empty_catalogue}
 use Rattle.hs_side.specs.Current.{list_in}
 use Rattle.hs_sound.specs.Stay.{AreSoundAlong}
+use Rattle.hs_answered.specs.Telling.{Judging}
+use Rattle.hs_model.specs.Store.{Store}
+use Rattle.hs_standing.proofs.LinesStepLemmas.{step_ended}
 use Rattle.hs_standing.proofs.FirstRoomLemmas.{first_room}
 use Rattle.hs_standing.proofs.TakenLemmas.{FoldsInMemory, run_begins}
 use Rattle.hs_standing.specs.Opening.{opened_lists}
-use Rattle.hs_standing.specs.Run.{RunOpens}
+use Rattle.hs_standing.specs.Run.{RunBegins, RunOpens}
 use Rattle.hs_standing.specs.Standing.{judging_of as run_judging}
 use Rattle.hs_standing.specs.Lists.{whole_from}
 use Rattle.hs_standing.specs.Start.{Start}
@@ -73,10 +78,46 @@ each_range P f k (suc n) h = (h k (omega arith) (omega arith), each_range P f (k
 -- what hs_clauses says of reports
 abbrev pub ReadsBlocks : Type 0
 ReadsBlocks =
-    (start : Start) (found : Found) (past done : Bool) (opening : Events) (lines : List Events) (to : ℕ) → RunOpens start found → MomentsRise found.opened (opening ++ lines_events lines) to
+    (start : Start) (found : Found) (past done : Bool) (opening : Events) (lines : List Events) (to : ℕ) → RunBegins start found → MomentsRise found.opened (opening ++ lines_events lines) to
     → is_walk next_due done 0 (first_core start.set found) opening ≡ true → AreLines (script_of start past) 1 (steps (first_core start.set found) opening) lines
     → KeepsRecordRoom (first_core start.set found) (opening ++ lines_events lines) → AreTold (open_whole start.set found) (opening ++ lines_events lines)
     → TellTheirBlocks (run_judging start) start.entry (first_core start.set found) (opening ++ lines_events lines)
+
+-- a core that has ended takes no reports
+blocks_ended : (by : Judging) (entry : Store) (core : Core) (es : Events) (f : CoreFault) → core.ended ≡ Some f → TellTheirBlocks by entry core es
+blocks_ended by entry core [] f over = tt
+blocks_ended by entry core (e ∷ es) f over = (
+  λ going. (let bad : None ≡ Some f = sym going ∙ over in absurd (cc bad)),
+  subst (λ (d : Core). TellTheirBlocks by entry d es) (sym (step_ended e.0 e.1 core f over)) (blocks_ended by entry core es f over),
+)
+
+-- where its reports tell what the lists have they tell the bytes of their blocks
+module _ (memory : FoldsInMemory) (reads : ReadsBlocks) (S : Script) (r : Ran) (story : Story) (run : RunsTold S r story) where
+  rooms : KeepsRecordRoom (first_core S.set story.found) (all_events story)
+  rooms = keeps_room (first_core S.set story.found) (all_events story) (λ goes. first_room S.set story.found memory run.begins.soundly.sound) run.rooms
+
+  same_events : all_events story ≡ story.opening ++ lines_events story.lines
+  same_events = ap (λ (es : Events). story.opening ++ es) (flat_same story.lines)
+
+  blocks_going : (first_core S.set story.found).ended ≡ None → TellTheirBlocks (judging_of (lined S r) S.set.limits) (entry_store S r) (first_core S.set story.found) (all_events story)
+  blocks_going going =
+      subst (λ (es : Events). TellTheirBlocks (judging_of (lined S r) S.set.limits) (entry_store S r) (first_core S.set story.found) es) (sym same_events)
+      (reads (start_of S r) story.found (ending_of r.ending).past false story.opening story.lines r.new.moment run.begins
+      (subst (λ (es : Events). MomentsRise story.found.opened es r.new.moment) same_events run.went.rises)
+      (opening_due (opening_is_whole r story.lines) (first_core S.set story.found) story.opening run.went.opening)
+      (joined S r 1 (steps (first_core S.set story.found) story.opening) story.lines run.went.lines)
+      (subst (λ (es : Events). KeepsRecordRoom (first_core S.set story.found) es) same_events rooms)
+      (subst (λ (es : Events). AreTold (open_whole S.set story.found) es) same_events (run.told going)))
+
+  blocks : TellTheirBlocks (judging_of (lined S r) S.set.limits) (entry_store S r) (first_core S.set story.found) (all_events story)
+  blocks = go (first_core S.set story.found).ended refl
+    where
+      go : (o : Option CoreFault) → (first_core S.set story.found).ended ≡ o → TellTheirBlocks (judging_of (lined S r) S.set.limits) (entry_store S r) (first_core S.set story.found) (all_events story)
+      go None going = blocks_going going
+      go (Some f) over = blocks_ended (judging_of (lined S r) S.set.limits) (entry_store S r) (first_core S.set story.found) (all_events story) f over
+
+  pub soundly_of : RunsSoundly S r story
+  soundly_of = record { went = run.went; begins = run.begins; rooms = run.rooms; blocks = blocks }
 
 module _ (memory : FoldsInMemory) (reads : ReadsBlocks) (S : Script) (r : Ran) (story : Story) (on : OnDisks S r) (sound : IsSoundAtEntry S r) (shown : IsShown S r story) (going : (first_core S.set story.found).ended ≡ None) where
   pub good : (p : ℕ) → p < S.set.shape.shards → starts_good story.found p ≡ true
@@ -123,24 +164,6 @@ module _ (memory : FoldsInMemory) (reads : ReadsBlocks) (S : Script) (r : Ran) (
     addressed = addressed;
   }
 
-  -- ---- its reports tell the bytes of their blocks
-
-  rooms : KeepsRecordRoom (first_core S.set story.found) (all_events story)
-  rooms = keeps_room (first_core S.set story.found) (all_events story) (λ goes. few) shown.rooms
-
-  same_events : all_events story ≡ story.opening ++ lines_events story.lines
-  same_events = ap (λ (es : Events). story.opening ++ es) (flat_same story.lines)
-
-  blocks : TellTheirBlocks (judging_of (lined S r) S.set.limits) (entry_store S r) (first_core S.set story.found) (all_events story)
-  blocks =
-      subst (λ (es : Events). TellTheirBlocks (judging_of (lined S r) S.set.limits) (entry_store S r) (first_core S.set story.found) es) (sym same_events)
-      (reads (start_of S r) story.found (ending_of r.ending).past false story.opening story.lines r.new.moment opens
-      (subst (λ (es : Events). MomentsRise story.found.opened es r.new.moment) same_events shown.went.rises)
-      (opening_due (opening_is_whole r story.lines) (first_core S.set story.found) story.opening shown.went.opening)
-      (joined S r 1 (steps (first_core S.set story.found) story.opening) story.lines shown.went.lines)
-      (subst (λ (es : Events). KeepsRecordRoom (first_core S.set story.found) es) same_events rooms)
-      (subst (λ (es : Events). AreTold (open_whole S.set story.found) es) same_events (shown.told going)))
-
   pub asked_of : IsAskedOf S r story
   asked_of = record {
     on = on;
@@ -150,7 +173,7 @@ module _ (memory : FoldsInMemory) (reads : ReadsBlocks) (S : Script) (r : Ran) (
     lists = lists;
     addressed = addressed;
     few = few;
-    runs = record { went = shown.went; begins = run_begins (start_of S r) story.found opens; rooms = shown.rooms; blocks = blocks };
+    runs = soundly_of memory reads S r story (record { went = shown.went; begins = run_begins (start_of S r) story.found opens; rooms = shown.rooms; told = shown.told });
   }
 
 -- ---- it opens at the store at entry

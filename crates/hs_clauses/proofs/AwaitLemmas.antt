@@ -66,7 +66,7 @@ memory_is cs c folded shard low =
     ap (λ (all : List Catalogue). slice_index_or all shard (empty_catalogue (shape_of c) shard)) folded.catalogues
     ∙ forget_at (shape_of c) cs shard (subst (λ n. shard < n) (sym folded.shards) low) (empty_catalogue (shape_of c) shard)
 
-numbered : (d : Folded) (a : Address) (number : ℕ) (found : Option FoldedFacts) → fold_at d a ≡ found → option_map (λ (f : Facts). f.number) (option_map known_of found) ≡ Some number → IsThere d a number
+pub numbered : (d : Folded) (a : Address) (number : ℕ) (found : Option FoldedFacts) → fold_at d a ≡ found → option_map (λ (f : Facts). f.number) (option_map known_of found) ≡ Some number → IsThere d a number
 numbered d a number None is e = absurd (some_not number e)
 numbered d a number (Some f) is e = record { facts = f; found = is; numbered = some_is f.present.number number e }
 

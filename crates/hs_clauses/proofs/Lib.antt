@@ -17,6 +17,7 @@ pub mod FoundLemmas
 pub mod FrontLemmas
 pub mod HomeLemmas
 pub mod HomeWalk
+pub mod InStepReadLemmas
 pub mod ImageLemmas
 pub mod KeptLemmas
 pub mod KeptRunLemmas
@@ -45,3 +46,4 @@ pub mod TakenLemmas
 pub mod TellLemmas
 pub mod UnopenedLemmas
 pub mod WantLemmas
+pub mod WholeReadLemmas

@@ -62,9 +62,9 @@ use Rattle.hs_standing.proofs.KeepLemmas.{Keeps}
 use Rattle.hs_standing.proofs.MomentLemmas.{event_stands}
 use Rattle.hs_standing.proofs.OpeningLemmas.{opened_stands}
 use Rattle.hs_standing.proofs.RunLemmas.{LawsBelow, run_opens, run_suffices}
-use Rattle.hs_standing.proofs.TakenLemmas.{may_open, runs_soundly}
+use Rattle.hs_standing.proofs.TakenLemmas.{may_open, run_begins}
 use Rattle.hs_standing.specs.Opening.{opened_folds}
-use Rattle.hs_standing.specs.Run.{RunOpens, RunStands}
+use Rattle.hs_standing.specs.Run.{RunBegins, RunOpens, RunStands}
 use Rattle.hs_standing.specs.Standing.{CoreStands, judging_of}
 use Rattle.hs_standing.specs.Start.{Start}
 
@@ -132,19 +132,19 @@ module _ (below : LawsBelow) (start : Start) (names : GivesAddresses start.set.n
 
 -- ---- as it opens
 
-no_sessions : (cs : List Folded) → store_of cs ≡ store_with cs []
+pub no_sessions : (cs : List Folded) → store_of cs ≡ store_with cs []
 no_sessions cs = refl
 
-first_stands : (below : LawsBelow) (start : Start) (found : Found) (o : RunOpens start found) → IsValid start.entry → ReadStands start (first_core start.set found) (opened_folds start.set found)
+pub first_stands : (below : LawsBelow) (start : Start) (found : Found) (o : RunBegins start found) → IsValid start.entry → ReadStands start (first_core start.set found) (opened_folds start.set found)
 first_stands below start found o valid =
     first_held (λ core. ReadStands start core (opened_folds start.set found))
     (record {
       beside = λ a b beside its. record {
-        stands = standing_beside below.views below.steps below.laws (judging_of start) o.names start.entry valid a (opened_folds start.set found) its.stands b beside;
+        stands = standing_beside below.views below.steps below.laws (judging_of start) o.soundly.names start.entry valid a (opened_folds start.set found) its.stands b beside;
         awaiting = awaiting_beside (opened_folds start.set found) a b its.awaiting beside;
       };
       downed = λ peer c its. record {
-        stands = standing_downed below.views below.steps below.laws (judging_of start) o.names start.entry valid c (opened_folds start.set found) its.stands peer 0;
+        stands = standing_downed below.views below.steps below.laws (judging_of start) o.soundly.names start.entry valid c (opened_folds start.set found) its.stands peer 0;
         awaiting = its.awaiting;
       };
       views = λ shard c low none its. record {
@@ -155,7 +155,7 @@ first_stands below start found o valid =
     start.set.shape start.set.limits (opens_with start.set found) found.opened
     (record {
       stands = subst (λ (s : Store). IsStanding (judging_of start) s (new_core start.set.shape start.set.limits (opens_with start.set found) found.opened) (opened_folds start.set found)) (sym (o.entry ∙ no_sessions (opened_folds start.set found)))
-          (standing_new (judging_of start) start.set.shape (opens_with start.set found) found.opened (opened_folds start.set found) (may_open below.memory start.set found (runs_soundly start found o) start.commands));
+          (standing_new (judging_of start) start.set.shape (opens_with start.set found) found.opened (opened_folds start.set found) (may_open below.memory start.set found o.soundly start.commands));
       awaiting = none_awaiting (new_core start.set.shape start.set.limits (opens_with start.set found) found.opened) (opened_folds start.set found) refl;
     })
 
@@ -186,7 +186,7 @@ few_copies shape taken (s ∷ shards) (suc g) none few = few_copies shape taken 
 lookup_none : (w : Waiting) → None ≡ Some w → ⊥
 lookup_none w e = cc e
 
-new_fine : (shape : Shape) (limits : Limits) (taken : Taken) (moment : ℕ) → Fine (new_core shape limits taken moment)
+pub new_fine : (shape : Shape) (limits : Limits) (taken : Taken) (moment : ℕ) → Fine (new_core shape limits taken moment)
 new_fine shape limits taken moment = record {
   single = λ g. few_copies shape taken (range_with_len 0 shape.shards) g (new_group shape g 0 0 []) (omega arith);
   once = tt;
@@ -194,7 +194,7 @@ new_fine shape limits taken moment = record {
   home = λ peer. subst (λ (ts : List Task). AllByRecursion (IsAtHome [] 0 (home_of shape peer)) ts) (sym (none_queued (shape.shards * shape.copies) peer)) tt;
 }
 
-at_home : (c : Core) → Fine c → AreAtHome c
+pub at_home : (c : Core) → Fine c → AreAtHome c
 at_home c f = record { begun = f.begun; jobs = f.home }
 
 pub reads_open : (below : LawsBelow) (start : Start) (found : Found) → RunOpens start found → IsReading start (open_whole start.set found)
@@ -203,7 +203,7 @@ reads_open below start found o =
     record {
       names = o.names;
       valid = valid;
-      stands = opened_stands start found o.well (λ core cs. ReadStands start core cs) (reads_suffice start) below.opens (first_stands below start found o valid);
+      stands = opened_stands start found o.well (λ core cs. ReadStands start core cs) (reads_suffice start) below.opens (first_stands below start found (run_begins start found o) valid);
       home = at_home (first_core start.set found)
           (fine_opens (new_core start.set.shape start.set.limits (opens_with start.set found) found.opened) (new_fine start.set.shape start.set.limits (opens_with start.set found) found.opened));
     }

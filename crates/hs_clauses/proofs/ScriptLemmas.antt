@@ -21,11 +21,12 @@ use Rattle.hs_standing.proofs.LinesStepLemmas.{step_ended}
 use Rattle.hs_standing.specs.Script.{AreLines, IsNext, Script, all_events}
 use Rattle.hs_model.specs.declared.command.Command.{Command}
 use Rattle.hs_clauses.proofs.ReadsFirstLemmas.{Stays, opens_first}
-use Rattle.hs_clauses.proofs.RunLemmas.{all_stored, all_tell, reads_open}
+use Rattle.hs_clauses.proofs.RunLemmas.{all_stored, reads_open}
 use Rattle.hs_clauses.specs.Along.{AllCome}
-use Rattle.hs_clauses.specs.Run.{IsReading, script_of}
+use Rattle.hs_clauses.proofs.WholeReadLemmas.{tell_soundly}
+use Rattle.hs_clauses.specs.Run.{script_of}
 use Rattle.hs_standing.proofs.RunLemmas.{LawsBelow}
-use Rattle.hs_standing.specs.Run.{RunOpens}
+use Rattle.hs_standing.specs.Run.{RunBegins, RunOpens}
 use Rattle.hs_standing.specs.Standing.{judging_of}
 use Rattle.hs_standing.specs.Start.{Start}
 use Rattle.hs_told.specs.InTurn.{AllMayCome, IsInTurn, after_all}
@@ -108,22 +109,19 @@ script_comes laws start past done core opening lines to nobody none turn rise wa
 
 -- ---- a script's run, from opening on
 
-module _ (below : LawsBelow) (laws : ScriptLaws) (start : Start) (found : Found) (o : RunOpens start found) (past done : Bool) (opening : Events) (lines : List Events) (to : ℕ)
+module _ (below : LawsBelow) (laws : ScriptLaws) (start : Start) (found : Found) (b : RunBegins start found) (past done : Bool) (opening : Events) (lines : List Events) (to : ℕ)
     (rise : MomentsRise found.opened (opening ++ all_events lines) to) (walks : is_walk next_due done 0 (first_core start.set found) opening ≡ true)
     (are : AreLines (script_of start past) 1 (steps (first_core start.set found) opening) lines) where
-  opened : IsReading start (open_whole start.set found)
-  opened = reads_open below start found o
-
   come : AllCome (judging_of start) (first_core start.set found) (opening ++ all_events lines)
   come =
       let first : Stays (new_core start.set.shape start.set.limits (opens_with start.set found) found.opened) (first_core start.set found) = opens_first start.set.shape start.set.limits (opens_with start.set found) found.opened in
-      script_comes laws start past done (first_core start.set found) opening lines to o.well.nobody first.event_line opened.stands.whole.turn
+      script_comes laws start past done (first_core start.set found) opening lines to b.nobody first.event_line (below.opens start.commands start.set.shape start.set.limits (opens_with start.set found) found.opened b.nobody)
       (subst (λ (m : ℕ). MomentsRise m (opening ++ all_events lines) to) (sym first.moment) rise) walks are
 
   pub script_tells : KeepsRecordRoom (first_core start.set found) (opening ++ all_events lines) → AreTold (open_whole start.set found) (opening ++ all_events lines)
       → TellTheirBlocks (judging_of start) start.entry (first_core start.set found) (opening ++ all_events lines)
-  script_tells room told = all_tell below start (open_whole start.set found) (opening ++ all_events lines) opened come room told
+  script_tells room told = tell_soundly below start found (opening ++ all_events lines) b come room told
 
-  pub script_stored : KeepsRecordRoom (first_core start.set found) (opening ++ all_events lines) → AreTold (open_whole start.set found) (opening ++ all_events lines)
+  pub script_stored : RunOpens start found → KeepsRecordRoom (first_core start.set found) (opening ++ all_events lines) → AreTold (open_whole start.set found) (opening ++ all_events lines)
       → AreStored (open_whole start.set found) (opening ++ all_events lines)
-  script_stored room told = all_stored below start (open_whole start.set found) (opening ++ all_events lines) opened come room told
+  script_stored o room told = all_stored below start (open_whole start.set found) (opening ++ all_events lines) (reads_open below start found o) come room told

@@ -4,23 +4,23 @@ use Rattle.std.proofs.lemmas.Bool.{cases_lt}
 use Rattle.std.proofs.lemmas.Bool.Decides.{nat_tests}
 use Rattle.std.specs.List.{AllByRecursion, enumerate_from}
 use Rattle.std.specs.Option.{option_map}
-use Rattle.std.specs.Prelude.{IsSome}
+use Rattle.std.specs.Prelude.{Contains, IsSome, if◌then◌else◌}
 use Rattle.hs_standing.specs.Walks.{IsReadFor, MayReport}
 use Rattle.hs_answered.proofs.ShownLemmas.{held_is}
 use Rattle.hs_answered.specs.Asked.{HasBytes}
 use Rattle.hs_answered.specs.Standing.{IsAddressed, IsFolded, forget_all, store_with}
-use Rattle.hs_answered.specs.Telling.{Judging}
 use Rattle.hs_cluster.specs.Jobs.{AreBytes}
 use Rattle.hs_cluster.specs.Kept.{IsTold, sealed_front}
 use Rattle.hs_awaiting.specs.declared.waiting.Waiting.{Waiting}
 use Rattle.hs_core_words.specs.declared.event.Event.{Event}
 use Rattle.hs_core_words.specs.declared.event.Event.TheVariants as event
 use Rattle.hs_core_words.specs.declared.task.Task.{Task}
-use Rattle.hs_core_words.specs.Looking.{first_task, front_of, group_of, shape_of, tasks_of}
+use Rattle.hs_core_words.specs.Looking.{copying_step, first_task, front_of, group_of, shape_of, tasks_of}
 use Rattle.hs_core_words.specs.Seeing.{view_for}
 use Rattle.hs_core_words.specs.State.{Core}
 use Rattle.hs_desk.specs.declared.done.Done.{Done}
 use Rattle.hs_desk.specs.declared.done.Done.TheVariants as done
+use Rattle.hs_desk.specs.declared.job.Job.{Job}
 use Rattle.hs_desk.specs.declared.job.Job.TheVariants as job
 use Rattle.hs_effects.proofs.StepLemmas.{held_same}
 use Rattle.hs_entry.specs.declared.entry.Entry.{Entry}
@@ -28,7 +28,7 @@ use Rattle.hs_entry.specs.declared.entry.Entry.TheVariants as kind
 use Rattle.hs_events.specs.Alone.{AreAlone, face}
 use Rattle.hs_events.specs.Asked.{report_in}
 use Rattle.hs_events.specs.Reports.{HasBlock, LacksEntry}
-use Rattle.hs_events.specs.Whole.{Whole, reach}
+use Rattle.hs_events.specs.Whole.{Whole, floor, reach}
 use Rattle.hs_fold.specs.Runs.Catalogue.{catalogue_of}
 use Rattle.hs_fold.specs.Runs.Facts.{Catalogue as Folded, Facts, facts_at}
 use Rattle.hs_fold.specs.Runs.Fits.{catalogue_at}
@@ -47,7 +47,7 @@ use Rattle.hs_limits.specs.declared.address.Held.{Held}
 use Rattle.hs_limits.specs.declared.shape.Shape.{Shape}
 use Rattle.hs_limits.specs.Reading.{read_block}
 use Rattle.hs_limits.specs.Shape.{shard_of}
-use Rattle.hs_members.specs.Members.{home_of}
+use Rattle.hs_members.specs.Members.{home_of, is_joining}
 use Rattle.hs_model.proofs.Members.{Member, contains_from_member, member_from_contains}
 use Rattle.hs_model.specs.declared.op.Op.{Op}
 use Rattle.hs_model.specs.declared.op.Op.TheVariants as op
@@ -58,7 +58,7 @@ use Rattle.hs_model.specs.Judge.{address_of, nothing}
 use Rattle.hs_model.specs.Refusals.{first, refused_when, stale_handle, stale_in}
 use Rattle.hs_model.specs.Store.{Session, Store, block_at, block_of, held_in}
 use Rattle.hs_moments.proofs.AloneEventLemmas.{home_here}
-use Rattle.hs_moments.proofs.AloneReportLemmas.{first_here, first_past}
+use Rattle.hs_moments.proofs.AloneReportLemmas.{first_past}
 use Rattle.hs_moments.proofs.WorkLemmas.{floor_alone, reach_sane}
 use Rattle.hs_moments.specs.WholeMachine.{whole_machine}
 use Rattle.hs_ops.specs.Operations.{wanted_number}
@@ -69,7 +69,7 @@ use Rattle.hs_clauses.proofs.AwaitLemmas.{read_shard, there_is}
 use Rattle.hs_clauses.proofs.ReadsListLemmas.{IsStoredBy, one_entry, stored_by, taken_member}
 use Rattle.hs_clauses.specs.Home.{IsAtHome}
 use Rattle.hs_clauses.specs.Awaiting.{AwaitsBlock, IsAwaiting, IsThere}
-use Rattle.hs_clauses.specs.Run.{IsReading}
+use Rattle.hs_clauses.specs.Run.{HasSealed, IsReading, ReadsWhatIsSealed}
 use Rattle.hs_shard.specs.Facts.{Catalogue}
 use Rattle.hs_standing.proofs.SettleLemmas.{folds_at}
 use Rattle.hs_standing.specs.Standing.{judging_of}
@@ -129,135 +129,104 @@ may_be_used v name handle held free is =
     stale_not (now_in v) handle held
     (ap (λ (x : Option Held). stale_handle (now_in v) handle x) (sym (held_same (seat_of name v.seats) handle ∙ is)) ∙ stale_one (open_in v name) (now_in v) handle (free_fresh v name handle free))
 
--- ---- a run
+-- ---- a core that reads what is sealed
 
-module _ (start : Start) (c : Whole) (r : IsReading start c) where
-  abbrev by : Judging
-  by = judging_of start
-
+module _ (start : Start) (c : Whole) (r : ReadsWhatIsSealed start c) where
   abbrev core : Core
   core = c.core
 
   abbrev cs : List Folded
-  cs = r.stands.whole.cs
+  cs = r.folds
 
   abbrev seats : Seats
   seats = c.core.sessions
 
-  abbrev stands : IsStanding (judging_of start) start.entry c.core (r.stands.whole.cs)
-  stands = r.stands.holds.stands
+  abbrev stands : IsStanding (judging_of start) start.entry c.core r.folds
+  stands = r.holds.stands
 
-  pub folded : IsFolded c.core (r.stands.whole.cs)
-  folded = stands.lawful.folded
-
-  alone : AreAlone (face c.core)
-  alone = r.stands.whole.sane.alone
+  folded_in : IsFolded c.core r.folds
+  folded_in = r.holds.stands.lawful.folded
 
   -- the epoch of a shard
   now_is : (shard : ℕ) → shard < (shape_of core).shards → (o : Op) → now_in (view_for shard o core) ≡ (catalogue_at cs shard).epoch
   now_is shard low o =
-      ap (λ (es : List ℕ). slice_index es shard) (ap (λ (all : List Catalogue). map (λ (d : Catalogue). d.epoch) all) folded.catalogues ∙ epochs_same (shape_of core) 0 cs)
-      ∙ epoch-at cs shard (let n = folded.shards in omega (arith, low, n))
+      ap (λ (es : List ℕ). slice_index es shard) (ap (λ (all : List Catalogue). map (λ (d : Catalogue). d.epoch) all) folded_in.catalogues ∙ epochs_same (shape_of core) 0 cs)
+      ∙ epoch-at cs shard (let n = folded_in.shards in omega (arith, low, n))
 
-  -- ---- what is sealed of a peer's list
+  module _ (peer number : ℕ) (w : Waiting) (read : IsReadFor peer number c.core w) where
+    abbrev shard : ℕ
+    shard = home_of c.core.members.shape peer
 
-  module _ (peer : ℕ) (low : peer < (shape_of c.core).shards) where
-    abbrev settled : Numbered
-    settled = take (front_of peer core) (reach c peer)
+    here : HasSealed c peer (r.took (home_of c.core.members.shape peer))
+    here = r.sealed peer number read.line read.first
 
-    pub sealed_is : sealed_front c peer ≡ take (front_of peer c.core) (reach c peer)
-    sealed_is = ap (λ n. take n (reach c peer)) (floor_alone c peer alone low ∙ (r.stands.whole.sane.settled peer low).settled)
+    -- bytes are right, where they are those of each block that the entry of the number stored
+    abbrev AreRight : Option (List ℕ) → Type 0
+    AreRight bytes = (a : Address) → shard_of (shape_of core).shards a ≡ shard → IsThere (catalogue_at cs shard) a number → HasBytes (block_at (store_with cs seats) a) bytes
 
-    fold_is : catalogue_at cs peer ≡ catalogue_of (shard_in start.set peer) settled
-    fold_is =
-        ap (λ (ds : List Folded). catalogue_at ds peer) (sym r.stands.whole.settled.folds)
-        ∙ folds_at start.set (lists_of whole_machine c) peer (subst (λ (x : Shape). peer < x.shards) r.stands.whole.shape low)
+    -- a block that is there was stored by an entry that took effect
+    stored_in : (a : Address) (there : IsThere (catalogue_at cs shard) a number) → IsStoredBy (r.took shard) there.facts
+    stored_in a there =
+        stored_by (shard_in start.set shard) (r.took shard) a there.facts (subst (λ (d : Folded). facts_at d a ≡ Some there.facts) (r.settled shard here.low) there.found)
 
-    -- a block that is there was stored by an entry of it
-    pub stored_there : (a : Address) (number : ℕ) (there : IsThere (catalogue_at cs peer) a number) → IsStoredBy settled there.facts
-    stored_there a number there = stored_by (shard_in start.set peer) settled a there.facts (subst (λ (d : Folded). facts_at d a ≡ Some there.facts) fold_is there.found)
+    -- so it is sealed
+    mine : (a : Address) (there : IsThere (catalogue_at cs shard) a number) → let s = stored_in a there in Contains (sealed_front c peer) (number, kind.Block s.line s.least s.bytes)
+    mine a there =
+        let s = stored_in a there in
+        here.all (number, kind.Block s.line s.least s.bytes)
+        (contains_from_member (number, kind.Block s.line s.least s.bytes) (r.took shard) (subst (λ n. Member (n, kind.Block s.line s.least s.bytes) (r.took shard)) there.numbered s.among))
 
-    -- where a number has one entry
-    once : (number : ℕ) (x y : Entry) → Member (number, x) settled → Member (number, y) settled → x ≡ y
-    once number x y a b =
-        let l = r.stands.whole.sane.lists peer low in
-        let listed : reach c peer ≡ enumerate_from 1 (l.taken ++ (group_of peer core).waiting) = reach_sane c peer r.stands.whole.sane ∙ l.counted in
-        one_entry 1 (l.taken ++ (group_of peer core).waiting) number x y
-        (subst (λ (es : Numbered). Member (number, x) es) listed (taken_member (front_of peer core) (reach c peer) (number, x) a))
-        (subst (λ (es : Numbered). Member (number, y) es) listed (taken_member (front_of peer core) (reach c peer) (number, y) b))
-
-    -- bytes are right of a number, where they are those of each block that its entry stored
-    abbrev pub AreRight : ℕ → Option (List ℕ) → Type 0
-    AreRight number bytes = (a : Address) → shard_of (shape_of core).shards a ≡ peer → IsThere (catalogue_at cs peer) a number → HasBytes (block_at (store_with cs seats) a) bytes
-
-    told_right : (number : ℕ) (bytes : List ℕ) → AreBytes bytes → HasBlock number bytes (Some (sealed_front c peer)) → AreRight number (Some bytes)
-    told_right number bytes small has a place there =
+    told_right : (bytes : List ℕ) → AreBytes bytes → HasBlock number bytes (Some (sealed_front c peer)) → AreRight (Some bytes)
+    told_right bytes small has a place there =
         subst (λ (x : Option StoredBlock). HasBytes x (Some bytes)) (sym block) (has_bytes there.facts.present.stored bytes small spells)
       where
-        s : IsStoredBy (take (front_of peer c.core) (reach c peer)) there.facts
-        s = stored_there a number there
+        s : IsStoredBy (r.took (home_of c.core.members.shape peer)) there.facts
+        s = stored_in a there
 
         block : block_at (store_of cs) a ≡ Some there.facts.present.stored
         block =
-            block_there (shape_of core).shards cs folded.shards folded.own peer low a place
+            block_there (shape_of core).shards cs folded_in.shards folded_in.own shard here.low a place
             ∙ ap (λ (x : Option Facts). option_map (λ (f : Facts). f.present.stored) x) there.found
 
-        told : Member (number, kind.Block has.line has.least bytes) (take (front_of peer c.core) (reach c peer))
-        told =
-            subst (λ (es : Numbered). Member (number, kind.Block has.line has.least bytes) es) (sym (some_is (sealed_front c peer) has.entries has.listed) ∙ sealed_is)
-            (member_from_contains (number, kind.Block has.line has.least bytes) has.entries has.block)
-
-        mine : Member (number, kind.Block s.line s.least s.bytes) (take (front_of peer c.core) (reach c peer))
-        mine = subst (λ n. Member (n, kind.Block s.line s.least s.bytes) (take (front_of peer c.core) (reach c peer))) there.numbered s.among
+        told : Contains (sealed_front c peer) (number, kind.Block has.line has.least bytes)
+        told = subst (λ (es : Numbered). Contains es (number, kind.Block has.line has.least bytes)) (sym (some_is (sealed_front c peer) has.entries has.listed)) has.block
 
         same : s.bytes ≡ bytes
-        same = same_bytes s.line has.line s.least has.least s.bytes bytes (once number (kind.Block s.line s.least s.bytes) (kind.Block has.line has.least bytes) mine told)
+        same = same_bytes s.line has.line s.least has.least s.bytes bytes (here.once number (kind.Block s.line s.least s.bytes) (kind.Block has.line has.least bytes) (mine a there) told)
 
         spells : read_block bytes ≡ Ok (block_of there.facts.present.stored)
         spells = ap (λ (bs : List ℕ). read_block bs) (sym same) ∙ s.spells
 
-    gone_right : (number : ℕ) → LacksEntry number (Some (sealed_front c peer)) → AreRight number None
-    gone_right number lacks a place there =
-        let s = stored_there a number there in
-        let mine : Member (number, kind.Block s.line s.least s.bytes) (sealed_front c peer) =
-        subst (λ (es : Numbered). Member (number, kind.Block s.line s.least s.bytes) es) (sym sealed_is)
-        (subst (λ n. Member (n, kind.Block s.line s.least s.bytes) settled) there.numbered s.among) in
-        absurd (lacks (kind.Block s.line s.least s.bytes) (contains_from_member (number, kind.Block s.line s.least s.bytes) (sealed_front c peer) mine))
+    gone_right : LacksEntry number (Some (sealed_front c peer)) → AreRight None
+    gone_right lacks a place there = let s = stored_in a there in absurd (lacks (kind.Block s.line s.least s.bytes) (mine a there))
 
-  -- ---- who waits
+    -- ---- who waits
 
-  pub peer_low : (peer : ℕ) (task : Task) → first_task peer core ≡ Some task → peer < (shape_of core).shards
-  peer_low peer task is = by_place (cases_lt peer core.members.shape.shards)
-    where
-      by_place : (peer < core.members.shape.shards) ⊎ (core.members.shape.shards ≤ peer) → peer < (shape_of core).shards
-      by_place (inl low) = low
-      by_place (inr high) = let bad : None ≡ Some task = sym (first_past core peer alone high) ∙ is in absurd (cc bad)
-
-  module _ (peer number : ℕ) (w : Waiting) (read : IsReadFor peer number c.core w) where
-    low : peer < (shape_of c.core).shards
-    low = peer_low peer (record { job = job.Read number; line = read.line }) read.first
+    -- a good peer's jobs are those of its queue
+    first_in : slice_get (tasks_of peer core) 0 ≡ Some (record { job = job.Read number; line = read.line })
+    first_in =
+        sym (ap (λ s. if is_joining s then option_map (λ (j : Job). record { job = j; line = 0 }) (copying_step peer core) else slice_get (tasks_of peer core) 0) here.good) ∙ read.first
 
     -- its shard is the peer's
-    home : w.shard ≡ peer
-    home =
-        let first : slice_get (tasks_of peer core) 0 ≡ Some (record { job = job.Read number; line = read.line }) = sym (first_here core peer alone low) ∙ read.first in
+    home_is : w.shard ≡ home_of c.core.members.shape peer
+    home_is =
         let its : IsAtHome core.operations core.progress.event_line (home_of core.members.shape peer) (record { job = job.Read number; line = read.line }) =
-        first_fits (IsAtHome core.operations core.progress.event_line (home_of core.members.shape peer)) (tasks_of peer core) (record { job = job.Read number; line = read.line }) (r.home.jobs peer) first in
-        (its number refl).1 w read.at ∙ home_here core peer alone.copies
+        first_fits (IsAtHome core.operations core.progress.event_line (home_of core.members.shape peer)) (tasks_of peer core) (record { job = job.Read number; line = read.line }) (r.at_home.jobs peer) first_in in
+        (its number refl).1 w read.at
 
     waits : IsAwaiting seats cs number w
-    waits = r.stands.holds.awaiting read.line number w read.at read.waits
+    waits = r.holds.awaiting read.line number w read.at read.waits
 
     judged : (o : Op) → w.operation.op ≡ o → w.shard ≡ judging_shard (shape_of core).shards seats o
     judged o is = (stands.orderly.pending read.line w read.at).judges ∙ ap (λ (p : Op). judging_shard (shape_of core).shards seats p) is
 
     w_low : w.shard < (shape_of c.core).shards
-    w_low = subst (λ k. k < (shape_of core).shards) (sym home) low
+    w_low = subst (λ k. k < (shape_of core).shards) (sym home_is) here.low
 
-    module _ (bytes : Option (List ℕ)) (right : AreRight peer low number bytes) where
+    module _ (bytes : Option (List ℕ)) (right : AreRight bytes) where
       -- of a block that is there in its shard
       of_there : (a : Address) → shard_of (shape_of core).shards a ≡ w.shard → IsThere (catalogue_at cs w.shard) a number → HasBytes (block_at (store_with cs seats) a) bytes
-      of_there a place there = right a (place ∙ home) (subst (λ k. IsThere (catalogue_at cs k) a number) home there)
+      of_there a place there = right a (place ∙ home_is) (subst (λ k. IsThere (catalogue_at cs k) a number) home_is there)
 
       -- a read that nothing refuses
       of_read : (name : List ℕ) (handle : ℕ) → w.operation.op ≡ op.Read name handle → IsFree core w.shard (op.Read name handle) → HasBytes (block_at (store_with cs seats) (address_of (store_with cs seats) name handle)) bytes
@@ -289,7 +258,7 @@ module _ (start : Start) (c : Whole) (r : IsReading start c) where
           absurd (cc bad)
       of_write name payload handles (Some a) is present =
           let there : IsThere (catalogue_at cs w.shard) a (wanted_number w.operation.stage) =
-          there_is cs core folded w.shard w_low w.operation.op a (ap (λ (p : Op). wanted_address seats p) is) (wanted_number w.operation.stage) present in
+          there_is cs core folded_in w.shard w_low w.operation.op a (ap (λ (p : Op). wanted_address seats p) is) (wanted_number w.operation.stage) present in
           of_there a (sym (judged (op.Write name payload handles (Some a)) is)) (subst (λ n. IsThere (catalogue_at cs w.shard) a n) waits.wanted there)
 
       of_block : (o : Op) → w.operation.op ≡ o → AreOfBlock (store_with cs seats) core bytes w o
@@ -313,20 +282,87 @@ module _ (start : Start) (c : Whole) (r : IsReading start c) where
   told_blocks : (peer : ℕ) (d : Done) → IsTold c (Some (peer, d)) → MayReport (TellsItsBlock (judging_of start) start.entry) peer d c.core
   told_blocks peer (done.Stored number) told = tt
   told_blocks peer (done.Sealed number) told = tt
-  told_blocks peer (done.Bytes number bytes) told = λ w read. tells_it peer number w read (Some bytes) (told_right peer (low peer number w read) number bytes told.1 told.0)
-  told_blocks peer (done.Gone number) told = λ w read. tells_it peer number w read None (gone_right peer (low peer number w read) number told.0)
+  told_blocks peer (done.Bytes number bytes) told = λ w read. tells_it peer number w read (Some bytes) (told_right peer number w read bytes told.1 told.0)
+  told_blocks peer (done.Gone number) told = λ w read. tells_it peer number w read None (gone_right peer number w read told.0)
   told_blocks peer done.Emptied told = tt
   told_blocks peer (done.Copied number) told = tt
   told_blocks peer (done.Stepped switched) told = tt
   told_blocks peer (done.Failed disk) told = tt
 
+  pub reports_right : (e : Event) → IsTold c (report_in e) → ReportsBlocks (judging_of start) start.entry e c.core
+  reports_right (event.Line line o) told = tt
+  reports_right (event.Report peer d) told = told_blocks peer d told
+  reports_right (event.Turn line peer) told = tt
+  reports_right (event.Deliver line number) told = tt
+  reports_right (event.Lose line number) told = tt
+  reports_right (event.Repeat line number) told = tt
+  reports_right (event.Nudge line peer) told = tt
+  reports_right (event.Fail line peer) told = tt
+  reports_right (event.Start line peer) told = tt
+
+-- ---- with one copy a shard
+
+module _ (start : Start) (c : Whole) (r : IsReading start c) where
+  pub folded : IsFolded c.core (r.stands.whole.cs)
+  folded = r.stands.holds.stands.lawful.folded
+
+  alone : AreAlone (face c.core)
+  alone = r.stands.whole.sane.alone
+
+  pub peer_low : (peer : ℕ) (task : Task) → first_task peer c.core ≡ Some task → peer < (shape_of c.core).shards
+  peer_low peer task is = by_place (cases_lt peer c.core.members.shape.shards)
+    where
+      by_place : (peer < c.core.members.shape.shards) ⊎ (c.core.members.shape.shards ≤ peer) → peer < (shape_of c.core).shards
+      by_place (inl low) = low
+      by_place (inr high) = let bad : None ≡ Some task = sym (first_past c.core peer alone high) ∙ is in absurd (cc bad)
+
+  -- what took effect of a shard's list
+  abbrev took_of : ℕ → Numbered
+  took_of shard = take (front_of shard c.core) (reach c shard)
+
+  module _ (peer : ℕ) (low : peer < (shape_of c.core).shards) where
+    pub sealed_is : sealed_front c peer ≡ take (front_of peer c.core) (reach c peer)
+    sealed_is = ap (λ n. take n (reach c peer)) (floor_alone c peer alone low ∙ (r.stands.whole.sane.settled peer low).settled)
+
+    fold_is : catalogue_at r.stands.whole.cs peer ≡ catalogue_of (shard_in start.set peer) (take (front_of peer c.core) (reach c peer))
+    fold_is =
+        ap (λ (ds : List Folded). catalogue_at ds peer) (sym r.stands.whole.settled.folds)
+        ∙ folds_at start.set (lists_of whole_machine c) peer (subst (λ (x : Shape). peer < x.shards) r.stands.whole.shape low)
+
+    -- a block that is there was stored by an entry of it
+    pub stored_there : (a : Address) (number : ℕ) (there : IsThere (catalogue_at r.stands.whole.cs peer) a number) → IsStoredBy (take (front_of peer c.core) (reach c peer)) there.facts
+    stored_there a number there = stored_by (shard_in start.set peer) (took_of peer) a there.facts (subst (λ (d : Folded). facts_at d a ≡ Some there.facts) fold_is there.found)
+
+    -- a number has one entry
+    once : (number : ℕ) (x y : Entry) → Contains (sealed_front c peer) (number, x) → Contains (sealed_front c peer) (number, y) → x ≡ y
+    once number x y a b =
+        let l = r.stands.whole.sane.lists peer low in
+        let listed : reach c peer ≡ enumerate_from 1 (l.taken ++ (group_of peer c.core).waiting) = reach_sane c peer r.stands.whole.sane ∙ l.counted in
+        one_entry 1 (l.taken ++ (group_of peer c.core).waiting) number x y (among listed x a) (among listed y b)
+      where
+        among : reach c peer ≡ enumerate_from 1 ((r.stands.whole.sane.lists peer low).taken ++ (group_of peer c.core).waiting) → (z : Entry) → Contains (sealed_front c peer) (number, z)
+            → Member (number, z) (enumerate_from 1 ((r.stands.whole.sane.lists peer low).taken ++ (group_of peer c.core).waiting))
+        among listed z h = subst (λ (es : Numbered). Member (number, z) es) listed (taken_member (floor c peer) (reach c peer) (number, z) (member_from_contains (number, z) (sealed_front c peer) h))
+
+  pub reads_sealed : ReadsWhatIsSealed start c
+  reads_sealed = record {
+    folds = r.stands.whole.cs;
+    holds = r.stands.holds;
+    at_home = r.home;
+    took = λ shard. take (front_of shard c.core) (reach c shard);
+    settled = λ shard low. fold_is shard low;
+    sealed = λ peer number line first. has peer (peer_low peer (record { job = job.Read number; line = line }) first);
+  }
+    where
+      has : (peer : ℕ) → peer < (shape_of c.core).shards → HasSealed c peer (take (front_of (home_of c.core.members.shape peer) c.core) (reach c (home_of c.core.members.shape peer)))
+      has peer low =
+          subst (λ k. HasSealed c peer (take (front_of k c.core) (reach c k))) (sym (home_here c.core peer alone.copies))
+          (record {
+            good = alone.good peer low;
+            low = subst (λ k. k < (shape_of c.core).shards) (sym (home_here c.core peer alone.copies)) low;
+            all = λ x h. subst (λ (es : Numbered). Contains es x) (sym (sealed_is peer low)) h;
+            once = λ number x y a b. once peer low number x y a b;
+          })
+
   pub reports_tell : (e : Event) → IsTold c (report_in e) → ReportsBlocks (judging_of start) start.entry e c.core
-  reports_tell (event.Line line o) told = tt
-  reports_tell (event.Report peer d) told = told_blocks peer d told
-  reports_tell (event.Turn line peer) told = tt
-  reports_tell (event.Deliver line number) told = tt
-  reports_tell (event.Lose line number) told = tt
-  reports_tell (event.Repeat line number) told = tt
-  reports_tell (event.Nudge line peer) told = tt
-  reports_tell (event.Fail line peer) told = tt
-  reports_tell (event.Start line peer) told = tt
+  reports_tell e told = reports_right start c reads_sealed e told

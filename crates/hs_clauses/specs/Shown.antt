@@ -56,6 +56,13 @@ pub record RunsSoundly (S : Script) (r : Ran) (story : Story) : Type 0 where
   pub rooms : HaveRecordRoom (first_core S.set story.found) (all_events story)
   pub blocks : TellTheirBlocks (judging_of (start_of S r)) (entry_store S r) (first_core S.set story.found) (all_events story)
 
+-- so it is too where each report tells what the list of the peer that was asked has
+pub record RunsTold (S : Script) (r : Ran) (story : Story) : Type 0 where
+  pub went : Went S r story
+  pub begins : RunBegins (start_of S r) story.found
+  pub rooms : HaveRecordRoom (first_core S.set story.found) (all_events story)
+  pub told : (first_core S.set story.found).ended ≡ None → AreTold (open_whole S.set story.found) (all_events story)
+
 -- it went as a story says, whose logs are those of its disks; a core that goes on has room for root records, and its reports tell of blocks what the lists have;
 -- and of the lists at each moment, whether the core goes on behind its opening or has ended with it
 pub record IsShown (S : Script) (r : Ran) (story : Story) : Type 0 where

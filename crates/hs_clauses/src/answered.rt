@@ -1,5 +1,5 @@
 //! A run is answered as the plain store does.
-ghost use Rattle.hs_clauses.specs.Shown.{IsToldRun, RunsSoundly};
+ghost use Rattle.hs_clauses.specs.Shown.{IsToldRun, RunsSoundly, RunsTold};
 ghost use Rattle.hs_laws.specs.Valid.{IsValid};
 ghost use Rattle.hs_promise.specs.Answers.{Answers};
 ghost use Rattle.hs_promise.specs.Causes.{FullCause};
@@ -20,7 +20,7 @@ use hs_told::answers_stay_in_order;
 /// (`answers`); so it is with what was refused, where the journal was full (`full`). A run that opened
 /// no core, or one that ended with its opening, has answered nothing. For any number of copies so it is of
 /// a run that begins over sound lists, and whose reports tell the bytes of their blocks (`soundly`,
-/// `refused`).
+/// `refused`); and these do so where each tells what the list of the peer that was asked has (`told`).
 pub fn a_run_is_answered()
     ensures valid { (S : Script) (r : Ran) → IsSoundAtEntry S r → IsValid (entry_store S r) }
     ensures answers { (S : Script) (r : Ran)
@@ -31,6 +31,7 @@ pub fn a_run_is_answered()
         → RunsSoundly S r story → Answers S (entry_store S r) r.journal }
     ensures refused { (S : Script) (r : Ran) (story : Story)
         → RunsSoundly S r story → FullCause S (entry_store S r) r }
+    ensures told { (S : Script) (r : Ran) (story : Story) → RunsTold S r story → RunsSoundly S r story }
 {
     a_script_is_answered();
     catalogues_in_memory_are_folds();

@@ -1,17 +1,20 @@
 //! A run whose operations wait for blocks that are there.
-ghost use Rattle.std.specs.Prelude.{◌≡◌, None};
+ghost use Rattle.std.specs.Prelude.{◌≡◌, ℕ, None};
 ghost use Rattle.hs_standing.specs.Walks.{HasRecordRoom};
 ghost use Rattle.hs_standing.specs.Answered.{KeepsRecordRoom};
-ghost use Rattle.hs_cluster.specs.Kept.{AreTold};
+ghost use Rattle.hs_cluster.specs.Kept.{AreTold, IsTold};
+ghost use Rattle.hs_core_words.specs.declared.event.Event.{Event};
+ghost use Rattle.hs_core_words.specs.Step.{step};
+ghost use Rattle.hs_events.specs.Asked.{report_in};
 ghost use Rattle.hs_events.specs.Course.{steps};
 ghost use Rattle.hs_events.specs.Due.{Events};
-ghost use Rattle.hs_events.specs.Found.{Found};
-ghost use Rattle.hs_events.specs.Whole.{Whole, open_whole};
+ghost use Rattle.hs_events.specs.Found.{Found, first_core};
+ghost use Rattle.hs_events.specs.Whole.{Whole, open_whole, step_whole};
 ghost use Rattle.hs_moments.specs.Machine.{runs};
 ghost use Rattle.hs_moments.specs.WholeMachine.{whole_machine};
-ghost use Rattle.hs_clauses.specs.Along.{AllCome};
-ghost use Rattle.hs_clauses.specs.Run.{IsReading};
-ghost use Rattle.hs_standing.specs.Run.{RunOpens};
+ghost use Rattle.hs_clauses.specs.Along.{AllCome, Comes};
+ghost use Rattle.hs_clauses.specs.Run.{IsReading, ReadsInStep};
+ghost use Rattle.hs_standing.specs.Run.{RunBegins, RunOpens};
 ghost use Rattle.hs_standing.specs.Standing.{judging_of};
 ghost use Rattle.hs_standing.specs.Start.{Start};
 
@@ -31,7 +34,8 @@ use hs_told::answers_stay_in_order;
 /// Each operation that waits for the bytes of an entry has asked for them, and what a read's handle
 /// stands for is there, stored by that entry, as long as the handle may be used; each job that reads
 /// is in the queue of its operation's shard. So it is as a run opens over sound lists (`opens`), and
-/// behind events that come, whose reports tell what the lists have, while its core goes on (`goes_on`).
+/// behind events that come, whose reports tell what the lists have, while its core goes on (`goes_on`). For any number
+/// of copies it is so beside the machines of the copies: as the run opens (`soundly`), and behind each event (`event`).
 pub fn a_run_reads_on()
     ensures opens { (start : Start) (found : Found)
         → RunOpens start found → IsReading start (open_whole start.set found) }
@@ -41,6 +45,12 @@ pub fn a_run_reads_on()
         → ((steps c.core events).ended ≡ None → HasRecordRoom (steps c.core events))
         → AreTold c events → (steps c.core events).ended ≡ None →
         IsReading start (runs whole_machine c events) }
+    ensures soundly { (start : Start) (found : Found) → RunBegins start found
+        → (first_core start.set found).ended ≡ None → ReadsInStep start (open_whole start.set found) }
+    ensures event { (start : Start) (c : Whole) (event : Event) (moment : ℕ)
+        → ReadsInStep start c → Comes (judging_of start) c.core event moment → HasRecordRoom c.core
+        → IsTold c (report_in event) → (step event moment c.core).ended ≡ None →
+        ReadsInStep start (step_whole event moment c) }
 {
     a_step_that_answers_is_the_judges();
     an_answer_is_the_judges();

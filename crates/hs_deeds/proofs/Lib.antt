@@ -20,4 +20,4 @@ pub mod StepsLemmas
 pub mod OpensLemmas
 pub mod HistoryLemmas
 pub mod BookLemmas
-pub mod AloneLemmas
+pub mod BookComesLemmas

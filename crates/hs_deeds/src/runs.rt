@@ -1,24 +1,21 @@
 //! The journal of a core that runs is one of deeds.
 ghost use Rattle.std.specs.Prelude.{◌≡◌, ℕ, List, [], map, Option, None};
 ghost use Rattle.hs_answered.specs.Standing.{store_with};
-ghost use Rattle.hs_any_events.specs.Events.{ComesNext, OpensSoundly, any_lines};
+ghost use Rattle.hs_any_events.specs.Events.{ComesNext};
 ghost use Rattle.hs_book.specs.Book.{Book};
 ghost use Rattle.hs_book.specs.History.{History};
 ghost use Rattle.hs_deeds.specs.History.{AreClients, HasTold};
 ghost use Rattle.hs_events.specs.Course.{steps};
 ghost use Rattle.hs_events.specs.Due.{Events};
-ghost use Rattle.hs_events.specs.Found.{Found, first_core, opens_with};
-ghost use Rattle.hs_fold.specs.Runs.Facts.{Catalogue as Folded};
+ghost use Rattle.hs_events.specs.Found.{Found, first_core};
 ghost use Rattle.hs_fold.specs.Shards.Setting.{Setting};
 ghost use Rattle.hs_journal.specs.Deeds.{as_deed};
 ghost use Rattle.hs_journal.specs.Events.{client_op};
+ghost use Rattle.hs_known_copies.specs.Known.{AllComeWithRoom};
 ghost use Rattle.hs_model.specs.declared.command.Command.{Command};
 ghost use Rattle.hs_model.specs.Deeds.{AreDeeds};
 ghost use Rattle.hs_model.specs.Hollow.{hollow};
-ghost use Rattle.hs_standing.specs.Copies.{AllComeOn};
-ghost use Rattle.hs_standing.specs.Held.{GivesAddresses};
-ghost use Rattle.hs_standing.specs.Opening.{opened_folds};
-ghost use Rattle.hs_standing.specs.Opens.{MayOpen};
+ghost use Rattle.hs_standing.specs.Opening.{OpensSoundly, opened_folds};
 ghost use Rattle.hs_told.specs.InTurn.{AllMayCome};
 
 use hs_answered::{
@@ -31,33 +28,24 @@ use hs_effects::{
     a_present_block_is_answered_at_its_effect, a_root_is_answered_at_its_effect,
     an_enter_by_itself_is_told,
 };
+use hs_known_copies::a_store_that_opens_comes_on;
 use hs_memory::catalogues_in_memory_are_folds;
-use hs_standing::a_run_goes_on;
 
 /// What a core has told from its opening on, with what found the journal full, is deeds from the store at
 /// which it was opened, without its data, and leaves that of the core: whatever events come, whatever reports
-/// tell, whatever addresses writes bring, and with any number of copies (`run`). It opens with folds of a
-/// lawful history; each line that has a command is a client's, and comes above those before, at a moment that
-/// is not before the last one; a write brings an address where it has a block; and as long as the core goes
-/// on it has its seats, what is known of copies is within their lists, and it has room for root records. So
-/// the journal of a book that was opened with such a core is one of deeds (`book`). With one copy a shard
-/// nothing more is asked than that its core opened over sound lists (`alone`).
+/// tell, whatever addresses writes bring, and with any number of copies (`run`). It opens over sound lists; each
+/// line that has a command is a client's, and comes above those before, at a moment that is not before the last
+/// one; a write brings an address where it has a block; and as long as the core goes on it has room for root
+/// records. So the journal of a book that was opened with such a core is one of deeds (`book`).
 pub fn a_history_is_its_deeds()
     ensures run { (set : Setting) (found : Found) (commands : ℕ → Option Command)
-        (events : Events) (cs : List Folded)
-        → GivesAddresses set.name
-        → MayOpen (any_lines set) set.shape (opens_with set found) found.opened cs
+        (events : Events) → OpensSoundly set found
         → client_op (commands 0) ≡ None → AreClients commands
-        → AllComeOn ComesNext (first_core set found) events
+        → AllComeWithRoom ComesNext (first_core set found) events
         → AllMayCome commands (first_core set found) events →
-        HasTold set.limits (hollow (store_with cs [])) (steps (first_core set found) events) }
-    ensures book { (set : Setting) (found : Found) (cs : List Folded) (book : Book)
-        (history : History (first_core set found) book)
-        → GivesAddresses set.name
-        → MayOpen (any_lines set) set.shape (opens_with set found) found.opened cs
-        → AllComeOn ComesNext (first_core set found) history.events →
-        AreDeeds set.limits (hollow (store_with cs [])) [] (map as_deed book.core.journal) }
-    ensures alone { (set : Setting) (found : Found) (book : Book)
+        HasTold set.limits (hollow (store_with (opened_folds set found) []))
+        (steps (first_core set found) events) }
+    ensures book { (set : Setting) (found : Found) (book : Book)
         → OpensSoundly set found → History (first_core set found) book →
         AreDeeds set.limits (hollow (store_with (opened_folds set found) [])) []
         (map as_deed book.core.journal) }
@@ -75,5 +63,5 @@ pub fn a_history_is_its_deeds()
     an_enter_by_itself_is_told();
     a_got_is_silent_or_a_sweep();
     catalogues_in_memory_are_folds();
-    a_run_goes_on();
+    a_store_that_opens_comes_on();
 }

@@ -152,7 +152,7 @@ module _ (c : Core) (machines : ℕ → Copies Entry) (w : AreInStep c machines)
   seated = record { lists = first.seated.groups; peers = first.stands.members.statuses; copies = let k = w.shape.some_copy in omega (arith, k) }
 
   -- a peer that has a job is one
-  peer_low : (p : ℕ) (task : Task) → first_task p c ≡ Some task → home p c < (shape_of c).shards
+  pub peer_low : (p : ℕ) (task : Task) → first_task p c ≡ Some task → home p c < (shape_of c).shards
   peer_low p task e = elim (cases_lt (home p c) (shape_of c).shards) [
     | inl low ↦ low
     | inr high ↦
@@ -264,7 +264,7 @@ opens_along shape limits taken moment logs es may = go (open_core shape limits t
 -- ---- a store that opens over sound lists
 
 module _ (set : Setting) (found : Found) (o : OpensSoundly set found) where
-  whole_opens : MayOpenWhole set found
+  pub whole_opens : MayOpenWhole set found
   whole_opens = record { shape = o.shape; count = o.many; lists = o.lists; views = λ g low. opened_rises set found o.sound g low }
 
   pub soundly_knows : (es : Events) → AllKnowTheirCopies (first_core set found) es

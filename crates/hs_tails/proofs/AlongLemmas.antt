@@ -72,7 +72,7 @@ use Rattle.hs_standing.proofs.SeatedLemmas.{good_shard, peer_low}
 use Rattle.hs_standing.specs.Copies.{IsSeated, KnowsItsCopies}
 use Rattle.hs_tails.proofs.ComingLemmas.{copied_known, emptied_known, fallen_fresh, follow_grown, heard_fresh, joined_fresh, sealed_fresh, start_fresh}
 use Rattle.hs_tails.proofs.FirstLemmas.{IsFresh, IsListed, fresh_listed, listed_grown, listed_other, listed_taken}
-use Rattle.hs_tails.proofs.GoneLemmas.{GoneWith, effect_goes, gone_start, quiet_set, rests_alike, stays, took_by, took_more}
+use Rattle.hs_tails.proofs.GoneLemmas.{GoneWith, began_at, effect_goes, gone_start, quiet_set, rests_alike, stays, took_by, took_more}
 
 -- what an act does to lists: entries come behind what waits; or it comes first, and what is committed is of what is left
 abbrev pub GoesOn : Core → Core → Core → Type 0
@@ -149,8 +149,8 @@ taken_listed s a took shard number entry next h g = by (one_or_other g shard)
 
 -- ---- both along the acts
 
-pub record IsAlong (by : Judging) (start : Store) (Tail : ℕ → List Entry → Type 0) (s : Core) (took : ℕ → List Entry) (a : Core) : Type 0 where
-  pub gone : GoneWith by start Tail (λ g. front_of g s) took a
+pub record IsAlong (by : Judging) (start : Store) (Tail : ℕ → List Entry → Type 0) (s : Core) (cs : List Folded) (took : ℕ → List Entry) (a : Core) : Type 0 where
+  pub gone : GoneWith by start Tail (began_at s cs) took a
   pub listed : (g : ℕ) → IsListed s (took g) g a
 
 beside_by : (a b : Core) → kept_of b ≡ kept_of a → HasSameLists a b → BringsNoRound a b → IsBeside a b
@@ -175,7 +175,7 @@ some_waiting w u e = cc e
 module _ (views : ByViews) (steps : Steps) (laws : Entries) (by : Judging) (names : GivesAddresses by.name) (start : Store) (valid : IsValid start) (Tail : ℕ → List Entry → Type 0)
     (s : Core) (e : Event) (may : MayStand by start e s) (seated : IsSeated s) (known : KnowsItsCopies s) (room : HasRecordRoom s) (stands : (cs : List Folded) × IsStanding by start s cs) where
   abbrev Gone : (ℕ → List Entry) → Core → Type 0
-  Gone took a = GoneWith by start Tail (λ g. front_of g s) took a
+  Gone took a = GoneWith by start Tail (began_at s stands.0) took a
 
   event_is : (x : Event) → Some e ≡ Some x → e ≡ x
   event_is x is = cc is
@@ -218,12 +218,12 @@ module _ (views : ByViews) (steps : Steps) (laws : Entries) (by : Judging) (name
   -- ---- beside, and views
 
   beside_goes : {took : ℕ → List Entry} (a b : Core) → IsBeside a b → Gone took a → Gone took b
-  beside_goes a b beside q = stays by start Tail (λ g. front_of g s) a b q (standing_beside views steps laws by names start valid a q.cs q.stands b beside) (set_on by.name a b beside.limits beside.shape) beside.front
+  beside_goes a b beside q = stays by start Tail (began_at s stands.0) a b q (standing_beside views steps laws by names start valid a q.cs q.stands b beside) (set_on by.name a b beside.limits beside.shape) beside.front
 
   begins_goes : {took : ℕ → List Entry} (shard : ℕ) (c : Core) → shard < (shape_of c).shards → Gone took c → Gone took (begin_view shard c)
   begins_goes shard c low q =
       let like = began_like by shard c in
-      stays by start Tail (λ g. front_of g s) c (begin_view shard c) q (standing_opens by shard c start q.cs q.stands low) (set_on by.name c (begin_view shard c) like.limits like.shape) (λ g. front_viewed shard c g)
+      stays by start Tail (began_at s stands.0) c (begin_view shard c) q (standing_opens by shard c start q.cs q.stands low) (set_on by.name c (begin_view shard c) like.limits like.shape) (λ g. front_viewed shard c g)
 
   view_goes : {took : ℕ → List Entry} (shard : ℕ) (c : Core) → (sizes_of c).peers ≡ (sizes_of c).shape.shards * (sizes_of c).shape.copies → Gone took c → Gone took (change_view shard c)
   view_goes {took} shard c seats q = go (has_good shard c.members) refl
@@ -258,31 +258,31 @@ module _ (views : ByViews) (steps : Steps) (laws : Entries) (by : Judging) (name
 
   -- ---- each act
 
-  along_by : {took : ℕ → List Entry} (a b : Core) → Gone took b → GoesOn s a b → IsAlong by start Tail s took a → IsAlong by start Tail s took b
+  along_by : {took : ℕ → List Entry} (a b : Core) → Gone took b → GoesOn s a b → IsAlong by start Tail s stands.0 took a → IsAlong by start Tail s stands.0 took b
   along_by {took} a b gone on q = record { gone = gone; listed = λ g. listed_on s a b (took g) g on (q.gone.fronts g) (q.listed g) }
 
   Along : Core → Type 0
-  Along a = (took : ℕ → List Entry) × IsAlong by start Tail s took a
+  Along a = (took : ℕ → List Entry) × IsAlong by start Tail s stands.0 took a
 
-  act_goes : (a b : Core) → Acts s (Some e) a → Act s (Some e) a b → (took : ℕ → List Entry) → IsAlong by start Tail s took a → (took : ℕ → List Entry) × IsAlong by start Tail s took b
+  act_goes : (a b : Core) → Acts s (Some e) a → Act s (Some e) a b → (took : ℕ → List Entry) → IsAlong by start Tail s stands.0 took a → (took : ℕ → List Entry) × IsAlong by start Tail s stands.0 took b
   act_goes a b xs (IsAside x) took q = (took, along_by a b (beside_goes a b (beside_aside a b x) q.gone) (aside_on s e seated known a b x) q)
   act_goes a b xs (Refuses now refusal is why) took q = (
     took,
-    along_by a b (stays by start Tail (λ g. front_of g s) a b q.gone (standing_refused views steps laws by names start valid a q.gone.cs q.gone.stands (line_of now) refusal (may_refuse now (subst (λ x. MayStand by start x s) (event_is now is) may) refusal why)) refl (λ g. refl))
+    along_by a b (stays by start Tail (began_at s stands.0) a b q.gone (standing_refused views steps laws by names start valid a q.gone.cs q.gone.stands (line_of now) refusal (may_refuse now (subst (λ x. MayStand by start x s) (event_is now is) may) refusal why)) refl (λ g. refl))
         (still s e seated known a b refl refl (λ g. refl)) q,
   )
   act_goes a b xs (TellsDown from peer is) took q =
-      (took, along_by a b (stays by start Tail (λ g. front_of g s) a b q.gone (standing_downed views steps laws by names start valid a q.gone.cs q.gone.stands peer a.progress.event_line) refl (λ g. refl)) (still s e seated known a b refl refl (λ g. refl)) q)
+      (took, along_by a b (stays by start Tail (began_at s stands.0) a b q.gone (standing_downed views steps laws by names start valid a q.gone.cs q.gone.stands peer a.progress.event_line) refl (λ g. refl)) (still s e seated known a b refl refl (λ g. refl)) q)
   act_goes a b xs (FindsDown peer is bad) took q = absurd (cc is)
   act_goes a b xs (Asks line o begins is) took q = (
     took,
-    along_by a b (stays by start Tail (λ g. front_of g s) a b q.gone
+    along_by a b (stays by start Tail (began_at s stands.0) a b q.gone
         (standing_line views steps laws by names start valid a q.gone.cs q.gone.stands line o (subst (λ c. IsLineOf by c line o) (sym begins) (subst (λ x. MayStand by start x s) (event_is (event.Line line o) is) may)))
         (quiet_set by.name a b (begun_quiet line o a)) (λ g. front_begun g line o a)) (inl (grown_begins line o a)) q,
   )
   act_goes a b xs (Goes line w at idle) took q = (
     took,
-    along_by a b (stays by start Tail (λ g. front_of g s) a b q.gone
+    along_by a b (stays by start Tail (began_at s stands.0) a b q.gone
         (standing_goes views steps laws by names start valid a q.gone.cs q.gone.stands line (λ u there. subst (λ (x : Waiting). IsIdle x.wait) (some_waiting w u (sym at ∙ there)) (idle stands.1.orderly.once)))
         (quiet_set by.name a b (going_quiet go_step line a)) (λ g. front_goes g go_step line a)) (inl (grown_goes go_step line a)) q,
   )
@@ -294,7 +294,7 @@ module _ (views : ByViews) (steps : Steps) (laws : Entries) (by : Judging) (name
       let told = tell_beside by start number bytes w a x beside (may_tell peer number bytes w a here (record { line = line; first = k.first; at = k.at; waits = k.waits })) in
       let q_x = beside_goes a x beside q.gone in (
         took,
-        along_by a b (stays by start Tail (λ g. front_of g s) x b q_x (standing_told views steps laws by names start valid x q_x.cs q_x.stands line number bytes w k.at k.waits told)
+        along_by a b (stays by start Tail (began_at s stands.0) x b q_x (standing_told views steps laws by names start valid x q_x.cs q_x.stands line number bytes w k.at k.waits told)
             (quiet_set by.name x b (going_quiet (λ v o. bytes_step v bytes (pointers_for w.shard w.operation.op x) o) line x)) (λ g. front_goes g (λ v o. bytes_step v bytes (pointers_for w.shard w.operation.op x) o) line x))
             (inl (grown_both a x b (grown_still a x refl refl (λ g. refl)) (grown_goes (λ v o. bytes_step v bytes (pointers_for w.shard w.operation.op x) o) line x))) q,
       )
@@ -303,14 +303,14 @@ module _ (views : ByViews) (steps : Steps) (laws : Entries) (by : Judging) (name
       let few = takes_few s e seated known room a xs shard number entry next in (
         took_more took shard entry,
         record {
-          gone = effect_goes views steps laws by names start valid Tail (λ g. front_of g s) took a q.gone shard number entry low next few;
+          gone = effect_goes views steps laws by names start valid Tail (began_at s stands.0) took a q.gone shard number entry low next few;
           listed = taken_listed s a took shard number entry next q.listed;
         },
       )
   act_goes a b xs (Enters shard urged due) took q =
       let entry : Entry = kind.Enter 0 ((catalogue_of shard a).epoch + 1) in (
         took,
-        along_by a b (stays by start Tail (λ g. front_of g s) a b q.gone (standing_due views steps laws by names start valid a q.gone.cs q.gone.stands shard (urged_low a xs shard urged) due)
+        along_by a b (stays by start Tail (began_at s stands.0) a b q.gone (standing_due views steps laws by names start valid a q.gone.cs q.gone.stands shard (urged_low a xs shard urged) due)
             (quiet_set by.name a b (proposed_quiet shard entry a)) (λ g. front_proposed g shard entry a)) (inl (grown_proposes shard entry a)) q,
       )
   act_goes a b xs (Gets number from to epoch round total deltas k new) took q =
@@ -320,19 +320,19 @@ module _ (views : ByViews) (steps : Steps) (laws : Entries) (by : Judging) (name
       elim (cases_lt to (shape_of a).shards) [
         | inl low ↦ (
           took,
-          along_by a b (stays by start Tail (λ g. front_of g s) a b q.gone (standing_round views steps laws by names start valid a q.gone.cs q.gone.stands number from to epoch round total deltas low k.at new)
+          along_by a b (stays by start Tail (began_at s stands.0) a b q.gone (standing_round views steps laws by names start valid a q.gone.cs q.gone.stands number from to epoch round total deltas low k.at new)
               (quiet_set by.name x b (proposed_quiet to entry x)) (λ g. front_proposed g to entry x)) on q,
         )
         | inr high ↦ (took, along_by a b (beside_goes x b (beside_nowhere to entry x (subst (λ n. n ≤ to) (sym (listed_at a xs)) high)) (beside_goes a x (beside_without number a) q.gone)) on q)
       ]
   act_goes a b xs (SendsRound back shard peer k) took q =
       let like = again_alike back shard a in
-      (took, along_by a b (stays by start Tail (λ g. front_of g s) a b q.gone (standing_again views steps laws by names start valid a q.gone.cs q.gone.stands back shard) (set_on by.name a b like.limits like.shape) like.front) (inl (grown_round back shard a)) q)
+      (took, along_by a b (stays by start Tail (began_at s stands.0) a b q.gone (standing_again views steps laws by names start valid a q.gone.cs q.gone.stands back shard) (set_on by.name a b like.limits like.shape) like.front) (inl (grown_round back shard a)) q)
   act_goes a b xs (Falls peer k) took q = (took, along_by a b (fallen_goes peer a (seats_at a xs) q.gone) (inr (falls_front s e seated known a k.lists k.members, fallen_fresh s e seated known a peer k)) q)
   act_goes a b xs (Joins peer k) took q = (took, along_by a b (joined_goes peer a (seats_at a xs) q.gone) (inr (joins_front s e seated known a peer k.behind, joined_fresh s e seated known a peer k.behind)) q)
   act_goes a b xs (Opens shard is good) took q = absurd (cc is)
 
-  pub acts_go_along : IsAlong by start Tail s (λ g. []) s → (b : Core) → Acts s (Some e) b → (took : ℕ → List Entry) × IsAlong by start Tail s took b
+  pub acts_go_along : IsAlong by start Tail s stands.0 (λ g. []) s → (b : Core) → Acts s (Some e) b → (took : ℕ → List Entry) × IsAlong by start Tail s stands.0 took b
   acts_go_along q b NoAct = ((λ g. []), q)
   acts_go_along q b (AndThen {a = a} xs x) = let r = acts_go_along q a xs in act_goes a b xs x r.0 r.1
 
@@ -345,7 +345,7 @@ taken_first (x ∷ xs) ys = ap (λ zs. x ∷ zs) (taken_first xs ys)
 pub takes_first : ByViews → Steps → Entries → (by : Judging) → GivesAddresses by.name → (start : Store) → IsValid start → (core : Core) (event : Event) (moment : ℕ) (cs : List Folded)
     → core.ended ≡ None → IsSeated core → KnowsItsCopies core → HasRecordRoom core → core.refused ≡ [] → MayStand by start event core → IsStanding by start core cs → TakesFirst by start core (step event moment core) cs
 takes_first views steps laws by names start valid core event moment cs going seated known room clean may stands = record {
-  gone = record { after = last.cs; stands = last.stands; took = r.0; fronts = last.fronts; rests = last.rests };
+  gone = record { after = last.cs; stands = last.stands; took = r.0; fronts = last.fronts; folds = last.folds; rests = last.rests };
   first = λ g. sym (ap (λ (ws : List Entry). take (length (r.0 g)) ws) (r.1.listed g).parts ∙ taken_first (r.0 g) _);
 }
   where
@@ -361,9 +361,9 @@ takes_first views steps laws by names start valid core event moment cs going sea
     stands_s : IsStanding by start s cs
     stands_s = standing_beside views steps laws by names start valid core cs stands s beside
 
-    first_along : IsAlong by start Tail s (λ g. []) s
+    first_along : IsAlong by start Tail s cs (λ g. []) s
     first_along = record {
-      gone = gone_start views steps laws by names start valid Tail (λ g. front_of g s) s cs (λ g. refl) stands_s
+      gone = gone_start views steps laws by names start valid Tail (began_at s cs) s cs (λ g. refl) (λ g. refl) stands_s
           (λ g tail rests. rests_alike by.name core s cs g tail (set_on by.name core s beside.limits beside.shape) (beside.front g) rests);
       listed = λ g. fresh_listed s g s (start_fresh s event (seated_begun event moment core seated) (knows_begun event moment core known) g);
     }
@@ -371,13 +371,13 @@ takes_first views steps laws by names start valid core event moment cs going sea
     b : Core
     b = do_event event s
 
-    r : (took : ℕ → List Entry) × IsAlong by start Tail s took b
+    r : (took : ℕ → List Entry) × IsAlong by start Tail s cs took b
     r = acts_go_along views steps laws by names start valid Tail s event (may_begun (walks_standing views steps laws by names start valid) event moment core may) (seated_begun event moment core seated) (knows_begun event moment core known) room (cs, stands_s)
         first_along b (does_acts s event)
 
     end : IsBeside b (end_event b)
     end = beside_ended b (do_refuses event s ∙ clean)
 
-    last : GoneWith by start Tail (λ g. front_of g s) r.0 (step event moment core)
-    last = subst (λ (x : Core). GoneWith by start Tail (λ g. front_of g s) r.0 x) (sym (step_is event moment core going))
-        (stays by start Tail (λ g. front_of g s) b (end_event b) (r.1.gone) (standing_beside views steps laws by names start valid b (r.1.gone).cs (r.1.gone).stands (end_event b) end) (set_on by.name b (end_event b) end.limits end.shape) end.front)
+    last : GoneWith by start Tail (began_at s cs) r.0 (step event moment core)
+    last = subst (λ (x : Core). GoneWith by start Tail (began_at s cs) r.0 x) (sym (step_is event moment core going))
+        (stays by start Tail (began_at s cs) b (end_event b) (r.1.gone) (standing_beside views steps laws by names start valid b (r.1.gone).cs (r.1.gone).stands (end_event b) end) (set_on by.name b (end_event b) end.limits end.shape) end.front)

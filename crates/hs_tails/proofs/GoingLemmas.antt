@@ -40,11 +40,11 @@ module _ (by : Judging) (start : Store) (old new : Core) (cs : List Folded) (go 
   more : length t.took ≡ length s.took + length (go.took shard)
   more = let before = a.stands.front in let after = b.stands.front in let fronts = go.fronts shard in omega (arith, before, after, fronts)
 
-  stays : IsFront s.took t.took
+  pub stays : IsFront s.took t.took
   stays = front_both s.took t.took s.log a.stands.faithful.took stood (let long = more in omega (arith, long))
 
   -- what took effect is what the machine has of it
-  took_is : map (λ (x : Item Entry). x.what) (drop (length s.took) t.took) ≡ go.took shard
+  pub took_is : map (λ (x : Item Entry). x.what) (drop (length s.took) t.took) ≡ go.took shard
   took_is =
       let what : Item Entry → Entry = λ x. x.what in
       ap (λ xs. map what xs) (sym (first_alike n m t.took s.log stood more))

@@ -1,6 +1,8 @@
 -- Each event leaves a core that stands, and of each tail that began with what took effect by it the rest rests.
 use Rattle.std.proofs.Common.{◌≡◌, ◌∙◌, ap, sym, subst, ◌⊎◌, inl, inr, ℕ, ◌+◌, ◌<◌, ◌≤◌, List, [], ◌∷◌, ◌++◌, Some, None, refl, arith, append_assoc, length, length-append}
+use Rattle.std.specs.List.{enumerate_from}
 use Rattle.hs_answered.specs.Telling.{Judging}
+use Rattle.hs_core_copies.proofs.UnsealedLemmas.{numbered_append}
 use Rattle.hs_core_words.specs.Asking.{send_round}
 use Rattle.hs_core_words.specs.Changing.{change_pool}
 use Rattle.hs_core_words.specs.declared.event.Event.{Event}
@@ -21,9 +23,12 @@ use Rattle.hs_entry.specs.declared.entry.Entry.{Entry}
 use Rattle.hs_entry.specs.declared.entry.Entry.TheVariants as kind
 use Rattle.hs_events.specs.Course.{steps as run_events}
 use Rattle.hs_events.specs.Due.{Events}
-use Rattle.hs_fold.proofs.Shards.PlaceLemmas.{other-at}
-use Rattle.hs_fold.specs.Runs.Facts.{Catalogue as Folded}
-use Rattle.hs_fold.specs.Shards.Setting.{Setting}
+use Rattle.hs_fold.proofs.Shards.PlaceLemmas.{other-at, same-at}
+use Rattle.hs_fold.specs.Runs.Catalogue.{apply, apply_all}
+use Rattle.hs_fold.specs.Runs.Facts.{Catalogue as Folded, empty_catalogue as empty_fold}
+use Rattle.hs_fold.specs.Runs.Fits.{catalogue_at}
+use Rattle.hs_fold.specs.Runs.History.{applied}
+use Rattle.hs_fold.specs.Shards.Setting.{Numbered, Setting, shard_in}
 use Rattle.hs_fold.specs.Shards.Sound.{most_records}
 use Rattle.hs_laws.specs.Valid.{IsValid}
 use Rattle.hs_limits.specs.declared.address.Address.{Address}
@@ -41,6 +46,7 @@ use Rattle.hs_standing.proofs.LegalOpenLemmas.{began_like, standing_opens}
 use Rattle.hs_standing.proofs.OrderLemmas.{again_alike}
 use Rattle.hs_standing.proofs.RestsListLemmas.{front_begun, front_goes, front_proposed, front_told, front_viewed}
 use Rattle.hs_standing.proofs.StandingLemmas.{line_beside, standing_again, standing_beside, standing_downed, standing_due, standing_effect, standing_follows, standing_goes, standing_line, standing_refused, standing_round, standing_told, tell_beside}
+use Rattle.hs_standing.proofs.StopsWalkLemmas.{apply_append}
 use Rattle.hs_standing.specs.Bytes.{TellsItsBlock}
 use Rattle.hs_standing.specs.Changes.{told_at_once}
 use Rattle.hs_standing.specs.Commands.{IsLineOf, IsNobodys}
@@ -51,15 +57,28 @@ use Rattle.hs_standing.specs.Walks.{HasRecordRoom, Walks}
 use Rattle.hs_tails.proofs.BehindLemmas.{first_taken, other_taken}
 use Rattle.hs_tails.specs.Tails.{RestsIn, TailRests, TailsGoOn}
 
--- since a core had these fronts these entries of each shard took effect, and of each tail that began with them the rest rests
-pub record GoneWith (by : Judging) (start : Store) (Tail : ℕ → List Entry → Type 0) (old : ℕ → ℕ) (took : ℕ → List Entry) (core : Core) : Type 0 where
+-- how much took effect of each shard as it began, and the folds
+pub record Began : Type 0 where
+  pub front : ℕ → ℕ
+  pub folds : List Folded
+
+abbrev pub began_at : Core → List Folded → Began
+began_at core cs = record { front = λ g. front_of g core; folds = cs }
+
+-- the fold of a shard with these entries more
+abbrev folded_with : (List ℕ → Address) → Began → Core → ℕ → List Entry → Folded
+folded_with name old core g entries = apply_all (shard_in (setting_of name core) g) (catalogue_at old.folds g) (enumerate_from (old.front g + 1) entries)
+
+-- since then these entries of each shard took effect, which the folds have more, and of each tail that began with them the rest rests
+pub record GoneWith (by : Judging) (start : Store) (Tail : ℕ → List Entry → Type 0) (old : Began) (took : ℕ → List Entry) (core : Core) : Type 0 where
   pub cs : List Folded
   pub stands : IsStanding by start core cs
-  pub fronts : (g : ℕ) → front_of g core ≡ old g + length (took g)
+  pub fronts : (g : ℕ) → front_of g core ≡ old.front g + length (took g)
+  pub folds : (g : ℕ) → catalogue_at cs g ≡ folded_with by.name old core g (took g)
   pub rests : (g : ℕ) (tail rest : List Entry) → Tail g tail → tail ≡ took g ++ rest → RestsIn by.name core cs g rest
 
 -- so some did
-abbrev GoneOn : Judging → Store → (ℕ → List Entry → Type 0) → (ℕ → ℕ) → Core → Type 0
+abbrev GoneOn : Judging → Store → (ℕ → List Entry → Type 0) → Began → Core → Type 0
 GoneOn by start Tail old core = (took : ℕ → List Entry) × GoneWith by start Tail old took core
 
 -- with one entry more of a shard
@@ -78,17 +97,18 @@ rests_alike name a b cs g tail set front t =
 pub quiet_set : (name : List ℕ → Address) (a b : Core) → Quiet a b → setting_of name b ≡ setting_of name a
 quiet_set name a b q = set_on name a b q.limits (ap (λ (m : Members). m.shape) q.members)
 
-module _ (by : Judging) (start : Store) (Tail : ℕ → List Entry → Type 0) (old : ℕ → ℕ) where
+module _ (by : Judging) (start : Store) (Tail : ℕ → List Entry → Type 0) (old : Began) where
   -- where no entry takes effect
   pub stays : {took : ℕ → List Entry} (a b : Core) (q : GoneWith by start Tail old took a) → IsStanding by start b q.cs → setting_of by.name b ≡ setting_of by.name a → ((g : ℕ) → front_of g b ≡ front_of g a) → GoneWith by start Tail old took b
-  stays a b q stands set front = record {
+  stays {took} a b q stands set front = record {
     cs = q.cs;
     stands = stands;
     fronts = λ g. front g ∙ q.fronts g;
+    folds = λ g. q.folds g ∙ ap (λ (s : Setting). apply_all (shard_in s g) (catalogue_at old.folds g) (enumerate_from (old.front g + 1) (took g))) (sym set);
     rests = λ g tail rest is parts. rests_alike by.name a b q.cs g rest set (front g) (q.rests g tail rest is parts);
   }
 
-module _ (views : ByViews) (steps : Steps) (laws : Entries) (by : Judging) (names : GivesAddresses by.name) (start : Store) (valid : IsValid start) (Tail : ℕ → List Entry → Type 0) (old : ℕ → ℕ) where
+module _ (views : ByViews) (steps : Steps) (laws : Entries) (by : Judging) (names : GivesAddresses by.name) (start : Store) (valid : IsValid start) (Tail : ℕ → List Entry → Type 0) (old : Began) where
   -- ---- an entry takes effect
 
   module _ (took : ℕ → List Entry) (c : Core) (q : GoneWith by start Tail old took c) (shard number : ℕ) (entry : Entry) (low : shard < (shape_of c).shards) (leads : committed (group_of shard c) ≡ Some (number, entry))
@@ -108,7 +128,7 @@ module _ (views : ByViews) (steps : Steps) (laws : Entries) (by : Judging) (name
     front_other : (g : ℕ) → (g ≡ shard → ⊥) → front_of g (told_at_once shard entry c) ≡ front_of g c
     front_other g apart = told_front g ∙ ap (λ (x : Group). x.front) (other-at (new_group (shape_of c) g 0 0 []) c.groups shard g (take_committed (group_of shard c)) apart)
 
-    fronts_by : (g : ℕ) (o : (g ≡ shard) ⊎ (g ≡ shard → ⊥)) → front_of g (told_at_once shard entry c) ≡ old g + length (took_by took shard entry g o)
+    fronts_by : (g : ℕ) (o : (g ≡ shard) ⊎ (g ≡ shard → ⊥)) → front_of g (told_at_once shard entry c) ≡ old.front g + length (took_by took shard entry g o)
     fronts_by g (inl is) =
         let here : front_of g (told_at_once shard entry c) ≡ front_of g c + 1 = subst (λ k. front_of k (told_at_once shard entry c) ≡ front_of k c + 1) (sym is) front_here in
         let was = q.fronts g in
@@ -131,11 +151,37 @@ module _ (views : ByViews) (steps : Steps) (laws : Entries) (by : Judging) (name
         subst (λ (s : Setting). TailRests s (folds_behind by.name q.cs shard entry c) g (front_of g (told_at_once shard entry c)) rest) (sym (told_set by.name c shard entry))
         (subst (λ k. TailRests (setting_of by.name c) (folds_behind by.name q.cs shard entry c) g k rest) (sym (front_other g apart)) behind)
 
+    low_fold : shard < length q.cs
+    low_fold = subst (λ n. shard < n) (sym q.stands.lawful.folded.shards) low
+
+    numbers : front_of shard c + 1 ≡ old.front shard + 1 + length (took shard)
+    numbers = let is = q.fronts shard in omega (arith, is)
+
+    same_set : (g : ℕ) (entries : List Entry) → folded_with by.name old c g entries ≡ folded_with by.name old (told_at_once shard entry c) g entries
+    same_set g entries = ap (λ (s : Setting). apply_all (shard_in s g) (catalogue_at old.folds g) (enumerate_from (old.front g + 1) entries)) (sym (told_set by.name c shard entry))
+
+    one_more : folded_with by.name old c shard (took shard ++ entry ∷ []) ≡ apply (shard_in (setting_of by.name c) shard) (folded_with by.name old c shard (took shard)) (old.front shard + 1 + length (took shard), entry)
+    one_more =
+        ap (λ (es : Numbered). apply_all (shard_in (setting_of by.name c) shard) (catalogue_at old.folds shard) es) (numbered_append (old.front shard + 1) (took shard) (entry ∷ []))
+        ∙ apply_append (shard_in (setting_of by.name c) shard) (catalogue_at old.folds shard) (enumerate_from (old.front shard + 1) (took shard)) (enumerate_from (old.front shard + 1 + length (took shard)) (entry ∷ []))
+
+    fold_here : catalogue_at (folds_behind by.name q.cs shard entry c) shard ≡ folded_with by.name old (told_at_once shard entry c) shard (took shard ++ entry ∷ [])
+    fold_here =
+        same-at empty_fold q.cs shard (applied (setting_of by.name c) q.cs (next_deed shard entry c)) low_fold
+        ∙ ap (λ (d : Folded). apply (shard_in (setting_of by.name c) shard) d (front_of shard c + 1, entry)) (q.folds shard)
+        ∙ ap (λ n. apply (shard_in (setting_of by.name c) shard) (folded_with by.name old c shard (took shard)) (n, entry)) numbers
+        ∙ sym one_more ∙ same_set shard (took shard ++ entry ∷ [])
+
+    folds_by : (g : ℕ) (o : (g ≡ shard) ⊎ (g ≡ shard → ⊥)) → catalogue_at (folds_behind by.name q.cs shard entry c) g ≡ folded_with by.name old (told_at_once shard entry c) g (took_by took shard entry g o)
+    folds_by g (inl is) = subst (λ k. catalogue_at (folds_behind by.name q.cs shard entry c) k ≡ folded_with by.name old (told_at_once shard entry c) k (took k ++ entry ∷ [])) (sym is) fold_here
+    folds_by g (inr apart) = other-at empty_fold q.cs shard g (applied (setting_of by.name c) q.cs (next_deed shard entry c)) apart ∙ q.folds g ∙ same_set g (took g)
+
     pub effect_goes : GoneWith by start Tail old (took_more took shard entry) (told_at_once shard entry c)
     effect_goes = record {
       cs = folds_behind by.name q.cs shard entry c;
       stands = standing_effect views steps laws by names start valid c q.cs q.stands shard number entry low leads few;
       fronts = λ g. fronts_by g (one_or_other g shard);
+      folds = λ g. folds_by g (one_or_other g shard);
       rests = λ g tail rest of parts. rests_by g (one_or_other g shard) tail rest of parts;
     }
 
@@ -181,11 +227,12 @@ module _ (views : ByViews) (steps : Steps) (laws : Entries) (by : Judging) (name
   gone_step core event moment going seated known room clean may q =
       copies_step gone_walks core (λ shard c same low more g. view_goes shard c low g) event moment going seated known room clean may q
 
-  pub gone_start : (core : Core) (cs : List Folded) → ((g : ℕ) → front_of g core ≡ old g) → IsStanding by start core cs → ((g : ℕ) (tail : List Entry) → Tail g tail → RestsIn by.name core cs g tail) → GoneWith by start Tail old (λ g. []) core
-  gone_start core cs same stands all = record {
+  pub gone_start : (core : Core) (cs : List Folded) → ((g : ℕ) → front_of g core ≡ old.front g) → ((g : ℕ) → catalogue_at cs g ≡ catalogue_at old.folds g) → IsStanding by start core cs → ((g : ℕ) (tail : List Entry) → Tail g tail → RestsIn by.name core cs g tail) → GoneWith by start Tail old (λ g. []) core
+  gone_start core cs same folds stands all = record {
     cs = cs;
     stands = stands;
     fronts = λ g. (let is = same g in omega (arith, is));
+    folds = λ g. folds g;
     rests = λ g tail rest of parts. subst (λ t. RestsIn by.name core cs g t) parts (all g tail of);
   }
 
@@ -193,18 +240,18 @@ pub tails_go_on : ByViews → Steps → Entries → (by : Judging) → GivesAddr
     → core.ended ≡ None → IsSeated core → KnowsItsCopies core → HasRecordRoom core → core.refused ≡ [] → MayStand by start event core → IsStanding by start core cs → TailsGoOn by start core (step event moment core) cs
 tails_go_on views steps laws by names start valid core event moment cs going seated known room clean may stands =
     let Tail : ℕ → List Entry → Type 0 = λ g tail. RestsIn by.name core cs g tail in
-    let fronts : ℕ → ℕ = λ g. front_of g core in
-    let q : GoneOn by start Tail fronts (step event moment core) =
-    gone_step views steps laws by names start valid Tail fronts core event moment going seated known room clean may ((λ g. []), gone_start views steps laws by names start valid Tail fronts core cs (λ g. refl) stands (λ g tail of. of)) in
-    record { after = q.1.cs; stands = q.1.stands; took = q.0; fronts = q.1.fronts; rests = q.1.rests }
+    let began : Began = began_at core cs in
+    let q : GoneOn by start Tail began (step event moment core) =
+    gone_step views steps laws by names start valid Tail began core event moment going seated known room clean may ((λ g. []), gone_start views steps laws by names start valid Tail began core cs (λ g. refl) (λ g. refl) stands (λ g tail of. of)) in
+    record { after = q.1.cs; stands = q.1.stands; took = q.0; fronts = q.1.fronts; folds = q.1.folds; rests = q.1.rests }
 
 -- so do some, one after another
 pub all_tails_go_on : ByViews → Steps → Entries → (by : Judging) → GivesAddresses by.name → (start : Store) → IsValid start → (core : Core) (events : Events) (cs : List Folded)
     → core.refused ≡ [] → core.entries ≡ [] → AllComeOn (MayStand by start) core events → IsStanding by start core cs → TailsGoOn by start core (run_events core events) cs
 all_tails_go_on views steps laws by names start valid core events cs clean told may stands =
     let Tail : ℕ → List Entry → Type 0 = λ g tail. RestsIn by.name core cs g tail in
-    let fronts : ℕ → ℕ = λ g. front_of g core in
-    let q : GoneOn by start Tail fronts (run_events core events) =
-    copies_steps (gone_walks views steps laws by names start valid Tail fronts) (λ shape shard c same low more g. view_goes views steps laws by names start valid Tail fronts shard c low g) events core clean told may
-    ((λ g. []), gone_start views steps laws by names start valid Tail fronts core cs (λ g. refl) stands (λ g tail of. of)) in
-    record { after = q.1.cs; stands = q.1.stands; took = q.0; fronts = q.1.fronts; rests = q.1.rests }
+    let began : Began = began_at core cs in
+    let q : GoneOn by start Tail began (run_events core events) =
+    copies_steps (gone_walks views steps laws by names start valid Tail began) (λ shape shard c same low more g. view_goes views steps laws by names start valid Tail began shard c low g) events core clean told may
+    ((λ g. []), gone_start views steps laws by names start valid Tail began core cs (λ g. refl) (λ g. refl) stands (λ g tail of. of)) in
+    record { after = q.1.cs; stands = q.1.stands; took = q.0; fronts = q.1.fronts; folds = q.1.folds; rests = q.1.rests }

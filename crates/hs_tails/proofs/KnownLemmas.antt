@@ -2,7 +2,7 @@
 use Rattle.std.proofs.Common.{◌≡◌, ◌⊎◌, ◌∙◌, ap, sym, subst, refl, inl, inr, arith, ℕ, suc, ◌<◌, List, [], ◌∷◌, ◌++◌}
 use Rattle.hs_copies.proofs.ChangeLemmas.{log_below}
 use Rattle.hs_copies.proofs.GrownLemmas.{IsGrown, grown, items_added}
-use Rattle.hs_copies.proofs.ListLemmas.{append_nil, front_trans, view_ap}
+use Rattle.hs_copies.proofs.ListLemmas.{append_nil, front_trans}
 use Rattle.hs_copies.proofs.OpenedLemmas.{settled_right}
 use Rattle.hs_copies.proofs.ViewKeeps.{after_right}
 use Rattle.hs_copies.specs.Invariant.{AreFaithful, reach}
@@ -25,17 +25,6 @@ top_front [] (l ∷ log) z (inr b) low = absurd (omega (arith, b.0, low.0))
 top_front (y ∷ ys) [] z b low = absurd b
 top_front (y ∷ ys) (l ∷ log) z (inl b) low = (b.0, top_front ys log z b.1 low.1)
 top_front (y ∷ ys) (l ∷ log) z (inr b) low = let end = below_end l.view ys z b.1 in absurd (omega (arith, end, low.0))
-
--- a list that goes with two others which part nowhere before it is a front of the first
-pub cross : {X : Type 0} (fs log longer bs : List (Item X)) → IsBehind fs log → IsFront log longer → IsBehind longer bs → IsFront fs bs → IsFront fs log
-cross [] log longer bs b f c g = tt
-cross (f ∷ fs) [] longer bs b k c g = absurd b
-cross (f ∷ fs) (a ∷ log) [] bs b k c g = absurd k
-cross (f ∷ fs) (a ∷ log) (l ∷ longer) [] b k c g = absurd g
-cross (f ∷ fs) (a ∷ log) (l ∷ longer) (z ∷ bs) (inl b) k (inl c) g = (b.0, cross fs log longer bs b.1 k.1 c.1 g.1)
-cross (f ∷ fs) (a ∷ log) (l ∷ longer) (z ∷ bs) (inl b) k (inr c) g = absurd (omega (arith, view_ap f a b.0, view_ap a l k.0, view_ap f z g.0, c.0))
-cross (f ∷ fs) (a ∷ log) (l ∷ longer) (z ∷ bs) (inr b) k (inl c) g = absurd (omega (arith, b.0, view_ap a l k.0, view_ap l z c.0, view_ap f z g.0))
-cross (f ∷ fs) (a ∷ log) (l ∷ longer) (z ∷ bs) (inr b) k (inr c) g = absurd (omega (arith, b.0, view_ap a l k.0, view_ap f z g.0, c.0))
 
 -- ---- an event
 

@@ -9,5 +9,4 @@ pub mod GoingLemmas
 pub mod GoneLemmas
 pub mod KnownLemmas
 pub mod LineLemmas
-pub mod StoodLemmas
 pub mod WaitsLemmas

@@ -2,9 +2,7 @@
 use Rattle.std.specs.Prelude.{◌⊎◌, ℕ, List, drop, length, map}
 use Rattle.hs_copies.specs.Invariant.{reach}
 use Rattle.hs_copies.specs.Lists.{IsFront, Item}
-use Rattle.hs_copies.specs.Machine.{Copies, after_events}
-use Rattle.hs_core_copies.specs.InStep.{GoesOn}
-use Rattle.hs_core_copies.specs.Lists.{AreHeld}
+use Rattle.hs_copies.specs.Machine.{Copies}
 use Rattle.hs_core_words.specs.State.{Core}
 use Rattle.hs_entry.specs.declared.entry.Entry.{Entry}
 use Rattle.hs_fold.specs.Runs.Facts.{Catalogue as Folded}
@@ -14,12 +12,6 @@ use Rattle.hs_tails.specs.Tails.{RestsIn}
 -- a list begins the lead's, or what some peer's disk may have
 abbrev pub IsKnown : Copies Entry → List (Item Entry) → Type 0
 IsKnown copies list = IsFront list copies.log ⊎ ((peer : ℕ) × IsFront list (reach (copies.peers peer)))
-
--- a shard has gone on as its machine, and what has taken effect since stood in the lead's list before
-pub record TakesWhatStood (shard : ℕ) (new : Core) (copies : Copies Entry) : Type 0 where
-  pub goes_on : GoesOn shard new copies
-  pub held : AreHeld (after_events copies goes_on.events)
-  pub stood : IsFront (after_events copies goes_on.events).took copies.log
 
 -- the entries of a list behind so many
 abbrev pub entries_behind : ℕ → List (Item Entry) → List Entry

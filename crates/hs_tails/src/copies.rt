@@ -1,18 +1,15 @@
 //! Lists of the copies of a shard, as the machine has them.
-ghost use Rattle.std.specs.Prelude.{◌≡◌, ◌⊎◌, ℕ, List, None, length};
+ghost use Rattle.std.specs.Prelude.{◌≡◌, ◌⊎◌, ℕ, List, length};
 ghost use Rattle.hs_answered.specs.Telling.{Judging};
 ghost use Rattle.hs_copies.specs.Invariant.{AreFaithful};
 ghost use Rattle.hs_copies.specs.Lists.{IsFront, Item, end_view};
 ghost use Rattle.hs_copies.specs.Machine.{CanCome, Copies, CopyEvent, after_event};
 ghost use Rattle.hs_core_copies.specs.InStep.{IsInStep};
-ghost use Rattle.hs_core_copies.specs.Lists.{AreHeld};
-ghost use Rattle.hs_core_words.specs.declared.event.Event.{Event};
 ghost use Rattle.hs_core_words.specs.State.{Core};
-ghost use Rattle.hs_core_words.specs.Step.{step};
 ghost use Rattle.hs_entry.specs.declared.entry.Entry.{Entry};
 ghost use Rattle.hs_fold.specs.Runs.Facts.{Catalogue as Folded};
 ghost use Rattle.hs_model.specs.Store.{Store};
-ghost use Rattle.hs_tails.specs.Known.{IsKnown, KnownListsRest, TakesWhatStood, entries_behind};
+ghost use Rattle.hs_tails.specs.Known.{IsKnown, KnownListsRest, entries_behind};
 ghost use Rattle.hs_tails.specs.Tails.{RestsIn, TakesFirst};
 
 /// Behind an event of the machine each list that begins the lead's, or what some peer's disk may have,
@@ -25,14 +22,6 @@ pub fn each_list_was_known_or_is_the_leads()
     ensures settled { (copies : Copies Entry) (list : List (Item Entry))
         → AreFaithful copies → end_view 0 copies.took ≡ copies.view
         → IsKnown copies list → IsFront copies.took list → IsFront list copies.log }
-{}
-
-/// Where a shard is in step, what has taken effect behind an event stood in the lead's list as it came:
-/// no entry takes effect in the event in which it is proposed, also where a view begins by it.
-pub fn what_takes_effect_stood_in_the_list()
-    ensures { (shard : ℕ) (event : Event) (moment : ℕ) (core : Core) (copies : Copies Entry)
-        → IsInStep shard core copies → AreHeld copies → (step event moment core).ended ≡ None →
-        TakesWhatStood shard (step event moment core) copies }
 {}
 
 /// Where a shard goes on in step by an event, each list that was known, and that has all that took

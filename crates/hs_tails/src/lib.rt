@@ -9,9 +9,7 @@ mod lines;
 mod tails;
 
 pub use chosen::chosen_lists_reopen;
-pub use copies::{
-    each_list_was_known_or_is_the_leads, known_lists_go_on, what_takes_effect_stood_in_the_list,
-};
+pub use copies::{each_list_was_known_or_is_the_leads, known_lists_go_on};
 pub use events::each_event_keeps_tails;
 pub use lines::lines_of_a_tail_stay_open;
 pub use tails::{

@@ -83,9 +83,9 @@ module _ (c : Whole) (e : Event) (at : ℕ) (machines : ℕ → Copies Entry) (w
   pick g (inr high) = machines g
 
   picked : (g : ℕ) (o : (g < c.core.members.shape.shards) ⊎ (c.core.members.shape.shards ≤ g)) → IsShard c.core.members.shape g
-      → IsShardInStep g (step_whole e at c) (pick g o) × IsFront (machines g).took (pick g o).took
+      → IsShardInStep g (step_whole e at c) (pick g o) × (IsFront (machines g).took (pick g o).took × IsFront (pick g o).took (machines g).log)
   unfolding pick
-  picked g (inl low) inside = ((stay g low).keeps, (stay g low).took)
+  picked g (inl low) inside = ((stay g low).keeps, ((stay g low).took, (stay g low).stood))
   picked g (inr high) inside = absurd (omega (arith, high, inside))
 
   -- ---- no peer
@@ -157,7 +157,8 @@ module _ (c : Whole) (e : Event) (at : ℕ) (machines : ℕ → Copies Entry) (w
   pub all_stay : StaysWhole (step_whole e at c) machines
   all_stay = record {
     machines = λ g. pick g (cases_lt g c.core.members.shape.shards);
-    took = λ g low. (picked g (cases_lt g c.core.members.shape.shards) (low_of g low)).1;
+    took = λ g low. (picked g (cases_lt g c.core.members.shape.shards) (low_of g low)).1.0;
+    stood = λ g low. (picked g (cases_lt g c.core.members.shape.shards) (low_of g low)).1.1;
     keeps = record {
       going = on;
       shape = rw same w.shape;

@@ -9,3 +9,4 @@ pub mod OpenLemmas
 pub mod PlainLemmas
 pub mod ReachLemmas
 pub mod ReportedLemmas
+pub mod StoodLemmas

@@ -13,7 +13,7 @@ use Rattle.hs_copies.proofs.ListLemmas.{front_append, front_refl, front_trans}
 use Rattle.hs_copies.proofs.NewViewLemmas.{told_copy_of, told_good}
 use Rattle.hs_copies.proofs.OpenedLemmas.{took_good}
 use Rattle.hs_copies.proofs.PeerLemmas.{put_cases}
-use Rattle.hs_copies.proofs.StandLemmas.{length_is}
+use Rattle.hs_copies.proofs.StandLemmas.{HasLead, length_is, stands_lead}
 use Rattle.hs_copies.specs.CoreCopies.{opens_good}
 use Rattle.hs_copies.specs.Invariant.{reach}
 use Rattle.hs_copies.specs.Lists.{IsFront, Item}
@@ -22,11 +22,13 @@ use Rattle.hs_copies.specs.Opened.{copy_with, stamped_alike}
 use Rattle.hs_copies.specs.Stamps.{ToldRises, view_told}
 use Rattle.hs_copies.specs.Standing.{stage_of}
 use Rattle.hs_core_copies.proofs.BesideLemmas.{IsBeside, besides_both, besides_same, home_of_peer}
+use Rattle.hs_core_copies.proofs.LeadLemmas.{lead_is}
 use Rattle.hs_core_copies.proofs.ListsLemmas.{all_held}
 use Rattle.hs_core_copies.proofs.NextLemmas.{front_take, map_take, rest_from}
 use Rattle.hs_core_copies.proofs.OpeningLemmas.{begun, first_lead, first_none, group_is, opened_core_in_step, seated_first, told_members, viewed_members}
 use Rattle.hs_core_copies.proofs.RunLemmas.{effects_stay, front_in_step}
 use Rattle.hs_core_copies.proofs.SettledRunLemmas.{settled_in_run}
+use Rattle.hs_core_copies.proofs.StepLemmas.{lead_in_step}
 use Rattle.hs_core_copies.proofs.StepsLemmas.{ends}
 use Rattle.hs_core_copies.proofs.StillLemmas.{takes_front}
 use Rattle.hs_core_copies.proofs.UnsealedLemmas.{between, numbered_take}
@@ -306,6 +308,10 @@ none_there : {X : Type 0} (xs : List X) → length xs ≡ 0 → xs ≡ []
 none_there [] e = refl
 none_there (x ∷ xs) e = absurd (omega (arith, e))
 
+first_of : {X : Type 0} (xs ys : List X) → take (length xs) (xs ++ ys) ≡ xs
+first_of [] ys = refl
+first_of (x ∷ xs) ys = ap (λ zs. x ∷ zs) (first_of xs ys)
+
 -- ---- a shard
 
 module _ (set : Setting) (found : Found) (may : MayOpenWhole set found) (on : (first_core set found).ended ≡ None) where
@@ -480,6 +486,40 @@ module _ (set : Setting) (found : Found) (may : MayOpenWhole set found) (on : (f
         held = all_held opened.2.events (opened_with set.shape (opens_with set found) g (map item_of (may.lists g low).entries) opened.0) opened.2.allowed
             (opened_held set.shape (opens_with set found) g (map item_of (may.lists g low).entries) opened.0)
 
+    -- of whichever machine the whole lists are: what took effect is the list with which it opens
+    module _ (s : Copies Entry) (k : IsShardInStep g (open_whole set found) s) where
+      d : HasLead (copies_in g k.in_step.sent (first_core set found)) s
+      d = stands_lead (copies_in g k.in_step.sent (first_core set found)) s k.in_step.stands
+
+      own_lead : IsOf (first_core set found).members.shape g d.peer
+      own_lead = (lead_is g (first_core set found) d.peer (k.in_step.seated.placed g).few (lead_in_step g (first_core set found) s k.in_step ∙ d.is)).own
+
+      good_lead : status_of d.peer (first_core set found) ≡ Good
+      good_lead = (lead_is g (first_core set found) d.peer (k.in_step.seated.placed g).few (lead_in_step g (first_core set found) s k.in_step ∙ d.is)).good
+
+      starts : (b : Bool) → status_of d.peer (first_core set found) ≡ (if b then Good else Down) → b ≡ true
+      starts true e = refl
+      starts false e = let wrong : Good ≡ Down = sym good_lead ∙ e in absurd (cc wrong)
+
+      log_is_list : numbered s.log ≡ grown (group_of g (first_core set found)) d.peer (opened_list set found g)
+      log_is_list =
+          ap numbered (sym d.whole) ∙ sym (k.lists d.peer own_lead)
+          ∙ ap (λ b. if b then grown (group_of (home d.peer (first_core set found)) (first_core set found)) d.peer (opened_list set found (home d.peer (first_core set found))) else []) (starts (starts_good found d.peer) (status_at d.peer))
+          ∙ ap (λ i. grown (group_of i (first_core set found)) d.peer (opened_list set found i)) own_lead
+
+      as_long : length s.took ≡ length (opened_list set found g)
+      as_long = sym k.in_step.stands.front ∙ front_is
+          ∙ sym (ap (λ (xs : Numbered). length xs) log_is ∙ length-enumerate_from 1 (map what (map item_of (may.lists g low).entries)) ∙ length-map (map item_of (may.lists g low).entries) what)
+
+      pub took_is_opened : numbered s.took ≡ opened_list set found g
+      took_is_opened =
+          ap (λ (xs : List (Item Entry)). numbered xs) (front_take s.took s.log k.in_step.stands.faithful.took)
+          ∙ ap (enumerate_from 1) (sym (map_take what (length s.took) s.log))
+          ∙ sym (numbered_take (length s.took) 1 (map what s.log))
+          ∙ ap (λ n. take n (numbered s.log)) as_long
+          ∙ ap (λ xs. take (length (opened_list set found g)) xs) log_is_list
+          ∙ first_of (opened_list set found g) _
+
   -- ---- all of them
 
   pick : (g : ℕ) → (g < set.shape.shards) ⊎ (set.shape.shards ≤ g) → Copies Entry
@@ -514,3 +554,7 @@ module _ (set : Setting) (found : Found) (may : MayOpenWhole set found) (on : (f
       aside = aside_first;
     },
   )
+
+pub took_first : (set : Setting) (found : Found) (may : MayOpenWhole set found) (machines : ℕ → Copies Entry) → IsWholeInStep (open_whole set found) machines → (g : ℕ) → IsShard set.shape g → numbered (machines g).took ≡ opened_list set found g
+took_first set found may machines w g low =
+    took_is_opened set found may w.going g low (machines g) (w.each g (subst (λ (s : Shape). IsShard s g) (sym (shape_is set found may w.going)) low))

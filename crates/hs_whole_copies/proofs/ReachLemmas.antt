@@ -50,6 +50,7 @@ use Rattle.hs_replica.specs.Group.{Group, IsHome, entries_above, length_of}
 use Rattle.hs_whole_copies.proofs.AddedLemmas.{IsSameCopy, IsTakenFrom, is_resting, kept_cases, kept_taken, more_cases, more_put, more_taken, front_rest, same_copy, stands_from, with_kept, with_more}
 use Rattle.hs_whole_copies.proofs.PlainLemmas.{plain_take}
 use Rattle.hs_whole_copies.proofs.ReportedLemmas.{IsOn, TellsList, reported_on}
+use Rattle.hs_whole_copies.proofs.StoodLemmas.{stood}
 use Rattle.hs_whole_copies.specs.Whole.{ArePlain, FollowsLead, IsShardInStep, StaysInStep, added_to, is_copying, longest}
 
 -- ---- jobs that copy
@@ -735,10 +736,14 @@ module _ (g : ℕ) (e : Event) (at : ℕ) (c : Whole) (s : Copies Entry) (k : Is
   took_stays : IsFront s.took machine.took
   took_stays = effects_stay goes.events (beside g c.core s)
 
+  took_stood : IsFront machine.took s.log
+  took_stood = stood g c.core (beside g c.core s) (beside_in_step g c.core s k.in_step) e at (beside_held g c.core s k.in_step k.held) goes
+
   pub stays_by : FollowsLead g (step e at c.core) → ArePlain (group_of g (step e at c.core)).waiting → StaysInStep g (step_whole e at c) s
   stays_by follow waits = record {
     copies = machine;
     took = took_stays;
+    stood = took_stood;
     keeps = record {
       in_step = machine_in_step;
       held = machine_held;

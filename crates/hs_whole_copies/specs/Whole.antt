@@ -77,14 +77,16 @@ pub record IsWholeInStep (c : Whole) (machines : ℕ → Copies Entry) : Type 0 
   pub past : (peer : ℕ) → peer_count (shape_of c.core) ≤ peer → c.lists peer ≡ []
   pub aside : (peer : ℕ) → c.aside peer ≡ true → is_good_status (status_of peer c.core) ≡ false
 
--- the shard is so with another machine, in which all that took effect before stands at the front of what has taken effect
+-- the shard is so with another machine, in which all that took effect before stands at the front of what has taken effect; and what has stood in the lead's list before
 pub record StaysInStep (shard : ℕ) (after : Whole) (before : Copies Entry) : Type 0 where
   pub copies : Copies Entry
   pub keeps : IsShardInStep shard after copies
   pub took : IsFront before.took copies.took
+  pub stood : IsFront copies.took before.log
 
 -- and so is the whole core
 pub record StaysWhole (after : Whole) (before : ℕ → Copies Entry) : Type 0 where
   pub machines : ℕ → Copies Entry
   pub keeps : IsWholeInStep after machines
   pub took : (shard : ℕ) → IsShard (shape_of after.core) shard → IsFront (before shard).took (machines shard).took
+  pub stood : (shard : ℕ) → IsShard (shape_of after.core) shard → IsFront (machines shard).took (before shard).log

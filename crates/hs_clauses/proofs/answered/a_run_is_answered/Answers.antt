@@ -1,4 +1,5 @@
 use Rattle.hs_clauses.proofs.AnswerLemmas.{answers_of, full_of}
+use Rattle.hs_clauses.proofs.AskedLemmas.{soundly_of}
 use Rattle.hs_clauses.proofs.answered.a_run_is_answered.Goals as goal
 use Rattle.hs_clauses.proofs.CaseLemmas.{told_answers, told_full}
 use Rattle.hs_clauses.proofs.ComingLemmas.{ComingLaws}
@@ -72,3 +73,6 @@ returns-clause-refused c = λ S r story run.
       memory = c.catalogues_in_memory_are_folds.ensures.list;
     } in
     full_of laws S r story run
+
+pub returns-clause-told : goal.returns-clause-told
+returns-clause-told c = λ S r story run. soundly_of c.catalogues_in_memory_are_folds.ensures.list c.each_report_tells_its_block.ensures.script S r story run

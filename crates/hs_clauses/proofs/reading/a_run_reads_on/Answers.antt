@@ -1,5 +1,6 @@
 use Rattle.hs_clauses.proofs.reading.a_run_reads_on.Goals as goal
 use Rattle.hs_clauses.proofs.RunLemmas.{all_read, reads_open}
+use Rattle.hs_clauses.proofs.WholeReadLemmas.{reads_first, reads_on}
 use Rattle.hs_standing.proofs.RunLemmas.{LawsBelow}
 
 pub returns-clause-opens : goal.returns-clause-opens
@@ -59,3 +60,61 @@ returns-clause-goes_on c = λ start whole events reading come room last told goi
       alone = c.no_line_waits_twice.ensures;
     } in
     all_read below start whole events reading come room last told going
+
+pub returns-clause-soundly : goal.returns-clause-soundly
+returns-clause-soundly c = λ start found begins on.
+    let below : LawsBelow = record {
+      views = c.views_show_the_store.ensures.shown;
+      steps = record {
+        first = c.a_step_that_answers_is_the_judges.ensures.first;
+        later = c.a_step_that_answers_is_the_judges.ensures.later;
+        answered = c.an_answer_is_the_judges.ensures.answered;
+        read = c.a_read_is_the_judges.ensures.told;
+        write = c.a_write_is_the_judges.ensures;
+      };
+      laws = record {
+        stores = c.a_new_block_is_answered_at_its_effect.ensures;
+        marks = c.a_present_block_is_answered_at_its_effect.ensures;
+        roots = c.a_root_is_answered_at_its_effect.ensures;
+        drops = c.a_drop_is_answered_at_its_effect.ensures;
+        deletes = c.a_delete_is_answered_at_its_effect.ensures;
+        enters_by_itself = c.an_enter_by_itself_is_told.ensures.enters;
+        enters_nothing = c.an_enter_by_itself_is_told.ensures.silent;
+        sweeps_last = c.a_got_is_silent_or_a_sweep.ensures.sweeps;
+        sweeps_nothing = c.a_got_is_silent_or_a_sweep.ensures.silent;
+      };
+      memory = c.catalogues_in_memory_are_folds.ensures.list;
+      turns = c.answers_stay_in_order.ensures.event;
+      opens = c.answers_stay_in_order.ensures.opens;
+      alone = c.no_line_waits_twice.ensures;
+    } in
+    reads_first below start found begins on
+
+pub returns-clause-event : goal.returns-clause-event
+returns-clause-event c = λ start whole event moment reads comes room told on.
+    let below : LawsBelow = record {
+      views = c.views_show_the_store.ensures.shown;
+      steps = record {
+        first = c.a_step_that_answers_is_the_judges.ensures.first;
+        later = c.a_step_that_answers_is_the_judges.ensures.later;
+        answered = c.an_answer_is_the_judges.ensures.answered;
+        read = c.a_read_is_the_judges.ensures.told;
+        write = c.a_write_is_the_judges.ensures;
+      };
+      laws = record {
+        stores = c.a_new_block_is_answered_at_its_effect.ensures;
+        marks = c.a_present_block_is_answered_at_its_effect.ensures;
+        roots = c.a_root_is_answered_at_its_effect.ensures;
+        drops = c.a_drop_is_answered_at_its_effect.ensures;
+        deletes = c.a_delete_is_answered_at_its_effect.ensures;
+        enters_by_itself = c.an_enter_by_itself_is_told.ensures.enters;
+        enters_nothing = c.an_enter_by_itself_is_told.ensures.silent;
+        sweeps_last = c.a_got_is_silent_or_a_sweep.ensures.sweeps;
+        sweeps_nothing = c.a_got_is_silent_or_a_sweep.ensures.silent;
+      };
+      memory = c.catalogues_in_memory_are_folds.ensures.list;
+      turns = c.answers_stay_in_order.ensures.event;
+      opens = c.answers_stay_in_order.ensures.opens;
+      alone = c.no_line_waits_twice.ensures;
+    } in
+    reads_on below start whole reads event moment comes room told on

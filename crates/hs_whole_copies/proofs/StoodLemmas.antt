@@ -1,18 +1,16 @@
 -- What takes effect by an event stood in the lead's list as it came.
-use Rattle.std.proofs.Common.{◌≡◌, ◌∙◌, ap, sym, subst, refl, arith, ℕ, ◌==◌, Bool, true, false, if◌then◌else◌, List, [], ◌∷◌, ◌++◌, Option, Some, None, length}
+use Rattle.std.proofs.Common.{◌≡◌, ◌⊎◌, ◌∙◌, ap, sym, subst, refl, inl, inr, arith, ℕ, ◌==◌, Bool, true, false, if◌then◌else◌, List, [], ◌∷◌, ◌++◌, Option, Some, None, length}
 use Rattle.std.proofs.lemmas.Bool.{and_parts, eqb-true}
 use Rattle.std.specs.Option.{option_map_or}
 use Rattle.std.specs.Prelude.{drop, take}
-use Rattle.hs_copies.proofs.ListLemmas.{behind_less, front_append, front_both, front_trans}
+use Rattle.hs_copies.proofs.ListLemmas.{behind_less, front_append, front_both, front_trans, view_ap}
 use Rattle.hs_copies.proofs.PeerLemmas.{put_cases}
 use Rattle.hs_copies.specs.Invariant.{AreFaithful, reach}
-use Rattle.hs_copies.specs.Lists.{IsFront, Item}
+use Rattle.hs_copies.specs.Lists.{IsBehind, IsFront, Item}
 use Rattle.hs_copies.specs.Machine.{Copies, Following, Good, after_events, put_at}
 use Rattle.hs_core_copies.proofs.GoingLemmas.{GoesTold}
-use Rattle.hs_core_copies.proofs.ListsLemmas.{all_held}
 use Rattle.hs_core_copies.proofs.NextLemmas.{first_is_next}
 use Rattle.hs_core_copies.proofs.ReportLemmas.{copy_is, reset_is}
-use Rattle.hs_core_copies.proofs.StepsLemmas.{steps_tell, was_going}
 use Rattle.hs_core_copies.specs.InStep.{IsInStep, IsOf}
 use Rattle.hs_core_copies.specs.Lists.{AreHeld, is_taken, list_by, lists_told}
 use Rattle.hs_core_copies.specs.Next.{IsNextToCopy, IsNextToEmpty}
@@ -27,8 +25,17 @@ use Rattle.hs_desk.specs.declared.done.Done.TheVariants as done
 use Rattle.hs_desk.specs.declared.job.Job.{Job}
 use Rattle.hs_desk.specs.declared.job.Job.TheVariants as job
 use Rattle.hs_entry.specs.declared.entry.Entry.{Entry}
-use Rattle.hs_tails.proofs.KnownLemmas.{cross}
-use Rattle.hs_tails.specs.Known.{TakesWhatStood}
+
+-- a list that goes with two others which part nowhere before it is a front of the first
+cross : {X : Type 0} (fs log longer bs : List (Item X)) → IsBehind fs log → IsFront log longer → IsBehind longer bs → IsFront fs bs → IsFront fs log
+cross [] log longer bs b f c g = tt
+cross (f ∷ fs) [] longer bs b k c g = absurd b
+cross (f ∷ fs) (a ∷ log) [] bs b k c g = absurd k
+cross (f ∷ fs) (a ∷ log) (l ∷ longer) [] b k c g = absurd g
+cross (f ∷ fs) (a ∷ log) (l ∷ longer) (z ∷ bs) (inl b) k (inl c) g = (b.0, cross fs log longer bs b.1 k.1 c.1 g.1)
+cross (f ∷ fs) (a ∷ log) (l ∷ longer) (z ∷ bs) (inl b) k (inr c) g = absurd (omega (arith, view_ap f a b.0, view_ap a l k.0, view_ap f z g.0, c.0))
+cross (f ∷ fs) (a ∷ log) (l ∷ longer) (z ∷ bs) (inr b) k (inl c) g = absurd (omega (arith, b.0, view_ap a l k.0, view_ap l z c.0, view_ap f z g.0))
+cross (f ∷ fs) (a ∷ log) (l ∷ longer) (z ∷ bs) (inr b) k (inr c) g = absurd (omega (arith, b.0, view_ap a l k.0, view_ap f z g.0, c.0))
 
 -- a list with the next of the log is a front of it
 one_more : {X : Type 0} (xs log : List X) → IsFront xs log → IsFront (xs ++ take 1 (drop (length xs) log)) log
@@ -151,14 +158,5 @@ module _ (g : ℕ) (c : Core) (s : Copies Entry) (st : IsInStep g c s) where
     stood_by (IsEmpty not is) = front_none (after_events s k.events).took s.log (subst (λ xs. IsFront (after_events s k.events).took xs) is took_told)
     stood_by (IsOfLead not is) = front_trans (after_events s k.events).took told s.log took_told is
 
-    stood : IsFront (after_events s k.events).took s.log
+    pub stood : IsFront (after_events s k.events).took s.log
     stood = stood_by (told_is e lead)
-
-pub takes_what_stood : (g : ℕ) (e : Event) (at : ℕ) (c : Core) (s : Copies Entry) → IsInStep g c s → AreHeld s → (step e at c).ended ≡ None → TakesWhatStood g (step e at c) s
-takes_what_stood g e at c s st held on =
-    let k : GoesTold g (step e at c) s (lists_told g e c s) = steps_tell g e at c s st (was_going e at c on) on in
-    record {
-      goes_on = record { events = k.events; allowed = k.allowed; keeps = k.keeps };
-      held = all_held k.events s k.allowed held;
-      stood = stood g c s st e at held k;
-    }
