@@ -42,7 +42,7 @@ pub record AlongLaws : Type 0 where
   pub told : (start : Start) (c : Whole) (events : Events) → IsReading start c → AllCome (judging_of start) c.core events → KeepsRecordRoom c.core events → AreTold c events → TellTheirBlocks (judging_of start) start.entry c.core events
   pub reads : (start : Start) (c : Whole) (events : Events) → IsReading start c → AllCome (judging_of start) c.core events → KeepsRecordRoom c.core events → ((steps c.core events).ended ≡ None → HasRecordRoom (steps c.core events)) → AreTold c events
       → (steps c.core events).ended ≡ None → IsReading start (runs whole_machine c events)
-  pub moves : (name : List ℕ → Address) (c : Whole) (events : Events) → IsMoving name c → MayBeginAll name events c.core → (steps c.core events).ended ≡ None → IsMoving name (runs whole_machine c events)
+  pub moves : (name : List ℕ → Address) (core : Core) (events : Events) → IsMoving name core → MayBeginAll name events core → (steps core events).ended ≡ None → IsMoving name (steps core events)
 
 -- what is known of events: they come, and what is told of disks
 pub record Comes (start : Start) (c : Whole) (es : Events) : Type 0 where
@@ -96,7 +96,7 @@ module _ (laws : AlongLaws) (start : Start) (c : Whole) (its : IsAlong start c) 
     pub goes_on : IsAlong start (runs whole_machine c es)
     goes_on = record {
       reading = laws.reads start c es its.reading all rooms last comes.told going;
-      moving = laws.moves start.set.name c es its.moving comes.fresh going;
+      moving = subst (λ (x : Core). IsMoving start.set.name x) (sym (runs_core c es)) (laws.moves start.set.name c.core es its.moving comes.fresh going);
       deletes = subst (λ (x : Core). TellsDeletion (judging_of start) start.entry x) (sym (runs_core c es)) kept.deletes;
       pool = ap (λ (x : Core). x.pool.limit) (runs_core c es) ∙ (steps_roomy es c.core).limit ∙ its.pool;
     }

@@ -2,10 +2,10 @@
 use Rattle.std.proofs.Common.{◌≡◌, sym, subst, ℕ, ◌++◌, List, [], ◌∷◌, Option, Some, None, refl, take}
 use Rattle.hs_answered.specs.Standing.{store_with}
 use Rattle.hs_answered.specs.Telling.{Judging, Tells}
+use Rattle.hs_settled.proofs.BegunLemmas.{with_room}
 use Rattle.hs_settled.proofs.DatedLemmas.{prompt_told}
 use Rattle.hs_clauses.proofs.FrontLemmas.{answered_front, legal_front}
 use Rattle.hs_core_words.specs.Opening.{Taken, new_core, open_core}
-use Rattle.hs_core_words.specs.Records.{HasRecordRoom}
 use Rattle.hs_core_words.specs.State.{Core}
 use Rattle.hs_core_words.specs.Step.{step}
 use Rattle.hs_desk.specs.declared.fault.CoreFault.{CoreFault}
@@ -22,7 +22,6 @@ use Rattle.hs_journal.specs.declared.entry.JournalEntry.{JournalEntry}
 use Rattle.hs_journal.specs.Events.{client_op}
 use Rattle.hs_journal.specs.Order.{IsOrdered}
 use Rattle.hs_known_copies.proofs.KnownLemmas.{comes_on, soundly_knows}
-use Rattle.hs_known_copies.specs.Known.{AllComeWithRoom}
 use Rattle.hs_laws.specs.Valid.{IsValid}
 use Rattle.hs_limits.specs.declared.address.Address.{Address}
 use Rattle.hs_limits.specs.declared.limits.Limits.{Limits}
@@ -30,7 +29,6 @@ use Rattle.hs_limits.specs.declared.shape.Shape.{Shape}
 use Rattle.hs_standing.proofs.AlongWalkLemmas.{come_front}
 use Rattle.hs_standing.proofs.FirstRoomLemmas.{first_room}
 use Rattle.hs_standing.proofs.LegalOpenLemmas.{folds_valid}
-use Rattle.hs_standing.proofs.LinesStepLemmas.{went}
 use Rattle.hs_standing.proofs.TakenLemmas.{FoldsInMemory, may_open}
 use Rattle.hs_standing.specs.Copies.{AllComeOn}
 use Rattle.hs_standing.specs.Held.{GivesAddresses}
@@ -92,19 +90,12 @@ module _ (laws : EventLaws) (start : Start) (core : Core) (turn : IsInTurn start
 
 -- ---- behind each front of events
 
-with_room : (start : Start) (core : Core) (es : Events) → (core.ended ≡ None → HasRecordRoom core) → AllMayKeep start (MayRun start) core es → AllComeWithRoom (MayRun start) core es
-with_room start core [] few may = tt
-with_room start core (e ∷ es) few may = (
-  λ going. (few going, (may.0 going).may),
-  with_room start (step e.0 e.1 core) es (λ on. (may.0 (went e.0 e.1 core on)).room on) may.1,
-)
-
-module _ (laws : EventLaws) (start : Start) (core : Core) (events : Events) (r : RunsBefore start core events) (may : AllMayKeep start (MayRun start) core events) where
-  come : AllComeOn (MayRun start) core events
+module _ (start : Start) (core : Core) (events : Events) (r : RunsBefore start core events) (may : AllMayKeep start (MayRun start) core events) where
+  pub come : AllComeOn (MayRun start) core events
   come = comes_on (MayRun start) core events r.known (with_room start core events r.few may)
 
-  pub front_keeps : TellsDeletion (judging_of start) start.entry core → (n : ℕ) → KeepsPromise start (steps core (take n events))
-  front_keeps its n = go core.ended refl
+  pub front_keeps : EventLaws → TellsDeletion (judging_of start) start.entry core → (n : ℕ) → KeepsPromise start (steps core (take n events))
+  front_keeps laws its n = go core.ended refl
     where
       front : Events
       front = take n events

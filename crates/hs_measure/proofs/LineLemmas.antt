@@ -8,24 +8,26 @@ use Rattle.hs_cluster.specs.Disks.{DiskSeen}
 use Rattle.hs_cluster.specs.Kept.{Shows}
 use Rattle.hs_cluster.specs.Rooms.{HaveRecordRoom}
 use Rattle.hs_cluster.specs.Running.{Running}
+use Rattle.hs_core_words.specs.Looking.{shape_of}
 use Rattle.hs_core_words.specs.State.{Core}
 use Rattle.hs_desk.specs.declared.fault.CoreFault.{CoreFault}
 use Rattle.hs_effects.specs.Logged.{MayBeginAll}
 use Rattle.hs_events.specs.Commands.{AreOfCommand, AreOfLine, LineAt}
 use Rattle.hs_events.specs.Course.{steps}
 use Rattle.hs_events.specs.Due.{Events, MomentsRise, is_walk, next_due}
-use Rattle.hs_events.specs.Whole.{Whole}
 use Rattle.hs_settled.specs.Moving.{IsMoving}
+use Rattle.hs_standing.proofs.KnownAlongLemmas.{runs_before}
 use Rattle.hs_standing.proofs.LinesLineLemmas.{Passes, line_passes}
 use Rattle.hs_standing.specs.Script.{AreLines, IsNext, Script, all_events}
 use Rattle.hs_model.specs.declared.command.Command.{Command}
+use Rattle.hs_limits.specs.declared.shape.Shape.{Shape}
 use Rattle.hs_moments.specs.Machine.{runs}
 use Rattle.hs_moments.specs.WholeMachine.{whole_machine}
 use Rattle.hs_measure.proofs.AlongLemmas.{AlongLaws, Comes, LineLaws, goes_on, kept, may, moments, running_of}
 use Rattle.hs_measure.proofs.RestLemmas.{runs_core}
 use Rattle.hs_measure.specs.Between.{IsInRun, KeepsOn, Rests}
 use Rattle.hs_measure.specs.Promised.{IsAtRest, KeepsPromise}
-use Rattle.hs_standing.specs.Run.{IsRunning, MayRun}
+use Rattle.hs_standing.specs.Run.{MayRun, RunsBefore}
 use Rattle.hs_standing.specs.Standing.{AllMayKeep, judging_of}
 use Rattle.hs_standing.specs.Start.{Start}
 use Rattle.hs_told.specs.InTurn.{AllMayCome, IsInTurn}
@@ -150,12 +152,15 @@ module _ (lines : LineLaws) (tells : Type 0) (told : tells) (start : Start) (lin
     -- ---- a settle
 
     -- what hs_measure says of the events of a settle
-    module _ (settles : (start : Start) (c : Whole) (line : ℕ) (events : Events) → IsRunning start c → IsMoving start.set.name c → c.core.pool.limit ≡ start.set.limits.pool → 2 * start.set.shape.shards < start.set.limits.pool
-        → AllMayKeep start (MayRun start) c.core events → (steps c.core events).ended ≡ None → is_walk next_due true line c.core events ≡ true → IsAtRest start (steps c.core events)) where
+    module _ (settles : (start : Start) (core : Core) (line : ℕ) (events : Events) → RunsBefore start core events → IsMoving start.set.name core → 2 * (shape_of core).shards < core.pool.limit
+        → AllMayKeep start (MayRun start) core events → (steps core events).ended ≡ None → is_walk next_due true line core events ≡ true → IsAtRest start (steps core events)) where
+      roomy : 2 * start.set.shape.shards < start.set.limits.pool → 2 * (shape_of its.whole.core).shards < its.whole.core.pool.limit
+      roomy room = let limit = its.along.pool in let shards = ap (λ (z : Shape). z.shards) its.along.reading.stands.whole.shape in omega (arith, room, limit, shards)
+
       pub rests : Rests start asked result new.core
       rests is room = on_ok result (λ ok.
           subst (λ (x : Core). IsAtRest start x) (sym (new_is (fine ok)))
-          (settles start its.whole line r.events (running_of start its.whole its.along.reading) its.along.moving its.along.pool room (may laws start its.whole its.along r.events comes) (going ok) (walks ok)))
+          (settles start its.whole.core line r.events (runs_before start its.whole (running_of start its.whole its.along.reading) r.events) its.along.moving (roomy room) (may laws start its.whole its.along r.events comes) (going ok) (walks ok)))
         where
           walks : result ≡ Ok tt → is_walk next_due true line its.whole.core r.events ≡ true
           walks ok =

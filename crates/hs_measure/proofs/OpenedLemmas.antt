@@ -18,15 +18,16 @@ use Rattle.hs_core_words.specs.Opening.{Taken, open_core}
 use Rattle.hs_core_words.specs.State.{Core}
 use Rattle.hs_settled.specs.Deletion.{TellsDeletion}
 use Rattle.hs_effects.specs.Logged.{MayBeginAll}
-use Rattle.hs_effects.specs.Logged.{steps as steps_so}
 use Rattle.hs_events.specs.Course.{steps}
 use Rattle.hs_events.specs.Due.{Events, MomentsRise, is_walk, next_due}
 use Rattle.hs_events.specs.Found.{Found, first_core, opened_catalogue, opened_list, opens_with, starts_good}
 use Rattle.hs_events.specs.Sane.{IsFromOne}
 use Rattle.hs_events.specs.Taken.{peer_count, taken_list}
-use Rattle.hs_events.specs.Whole.{Whole, open_whole}
+use Rattle.hs_events.specs.Whole.{open_whole}
 use Rattle.hs_fold.specs.Shards.Setting.{Numbered, Setting}
+use Rattle.hs_settled.proofs.BegunLemmas.{ranked}
 use Rattle.hs_settled.specs.Moving.{IsMoving}
+use Rattle.hs_settled.specs.Opened.{OpensRanked}
 use Rattle.hs_standing.specs.Held.{GivesAddresses, KeepsAddresses}
 use Rattle.hs_journal.specs.Events.{client_op}
 use Rattle.hs_limits.specs.declared.address.Address.{Address}
@@ -47,11 +48,10 @@ use Rattle.hs_measure.proofs.LineLemmas.{from_ok, going_of, on_ok}
 use Rattle.hs_measure.proofs.RestLemmas.{runs_core}
 use Rattle.hs_measure.specs.Between.{IsAlong, IsInRun, KeepsOn, start_of}
 use Rattle.hs_measure.specs.Promised.{KeepsPromise}
-use Rattle.hs_settled.proofs.EndLemmas.{same_steps}
 use Rattle.hs_shard.specs.Facts.{Catalogue, empty_catalogue}
 use Rattle.hs_side.specs.Current.{list_in}
 use Rattle.hs_sound.specs.Stay.{AreSoundAlong}
-use Rattle.hs_standing.proofs.TakenLemmas.{FoldsInMemory}
+use Rattle.hs_standing.proofs.TakenLemmas.{FoldsInMemory, run_begins}
 use Rattle.hs_standing.specs.Opening.{opened_lists}
 use Rattle.hs_standing.specs.Run.{RunOpens}
 use Rattle.hs_standing.specs.Standing.{judging_of}
@@ -60,11 +60,6 @@ use Rattle.hs_standing.specs.Start.{Start}
 use Rattle.hs_taking.specs.Disks.{seen_at}
 use Rattle.hs_taking.specs.Shares.{Span}
 use Rattle.hs_told.specs.InTurn.{AllMayCome}
-
--- events keep what is open going on, as hs_settled has it
-pub moves_on : ((name : List ℕ → Address) (c : Whole) (events : Events) → IsMoving name c → MayBeginAll name events c.core → (steps_so c.core events).ended ≡ None → IsMoving name (runs whole_machine c events))
-    → (name : List ℕ → Address) (c : Whole) (events : Events) → IsMoving name c → MayBeginAll name events c.core → (steps c.core events).ended ≡ None → IsMoving name (runs whole_machine c events)
-moves_on events name c es moving fresh going = events name c es moving fresh (ap (λ (x : Core). x.ended) (same_steps c.core es) ∙ going)
 
 -- ---- the laws below, in one place
 
@@ -76,8 +71,7 @@ pub record OpeningLaws : Type 0 where
 
 -- and of what goes on behind it
 pub record OpenLaws : Type 0 where
-  pub moves : (name : List ℕ → Address) (set : Setting) (found : Found) → IsShape set.shape → set.shape.copies ≡ 1 → (first_core set found).ended ≡ None → ((shard : ℕ) → shard < set.shape.shards → IsFromOne (opened_list set found shard))
-      → length found.good ≡ peer_count set.shape → IsMoving name (open_whole set found)
+  pub moves : (name : List ℕ → Address) (set : Setting) (found : Found) → length found.good ≡ peer_count set.shape → OpensRanked set found → (first_core set found).ended ≡ None → IsMoving name (first_core set found)
   pub deletes : (by : Judging) (start : Store) (shape : Shape) (limits : Limits) (taken : Taken) (moment : ℕ) → TellsDeletion by start (open_core shape limits taken moment)
   pub noted : (commands : ℕ → Option Command) (shape : Shape) (limits : Limits) (taken : Taken) (moment : ℕ) → length taken.good ≡ shape.shards * shape.copies → IsNoted commands (open_core shape limits taken moment)
   pub next : (commands : ℕ → Option Command) (whole : Bool) (core : Core) (es : Events) → client_op (commands 0) ≡ None → core.progress.event_line ≡ 0 → is_walk next_due whole 0 core es ≡ true → IsNext commands (steps core es) 1
@@ -196,7 +190,7 @@ module _ (opening : OpeningLaws) (tells : Type 0) (told : tells) (set : Setting)
     first_along : IsAlong (start_of set commands o.found) (open_whole set o.found)
     first_along = record {
       reading = opening.reads start found opens;
-      moving = laws.moves set.name set found shape one first_going lists o.finds.goods;
+      moving = laws.moves set.name set found o.finds.goods (ranked start found (run_begins start found opens)) first_going;
       deletes = laws.deletes (judging_of start) start.entry set.shape set.limits (opens_with set found) found.opened;
       pool = (laws.noted commands set.shape set.limits (opens_with set found) found.opened o.finds.goods).pool ∙ ap (λ (l : Limits). l.pool) limits_is;
     }

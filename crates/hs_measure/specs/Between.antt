@@ -30,7 +30,7 @@ start_of set commands found = record { set = set; commands = commands; entry = s
 -- a core with its lists between two events of a run over sound lists: it stands and reads what is there, whatever is open goes on, deletions were told as promised, and its pool has the room of the limits
 pub record IsAlong (start : Start) (whole : Whole) : Type 0 where
   pub reading : IsReading start whole
-  pub moving : IsMoving start.set.name whole
+  pub moving : IsMoving start.set.name whole.core
   pub deletes : TellsDeletion (judging_of start) start.entry whole.core
   pub pool : whole.core.pool.limit ≡ start.set.limits.pool
 

@@ -1,37 +1,35 @@
 //! What a settle leaves.
 ghost use Rattle.std.specs.Prelude.{◌≡◌, ◌*◌, ◌<◌, ℕ, None, true};
+ghost use Rattle.hs_core_words.specs.Looking.{shape_of};
+ghost use Rattle.hs_core_words.specs.State.{Core};
 ghost use Rattle.hs_events.specs.Course.{steps};
 ghost use Rattle.hs_events.specs.Due.{Events, is_walk, next_due};
-ghost use Rattle.hs_events.specs.Whole.{Whole};
-ghost use Rattle.hs_settled.specs.Moving.{IsMoving};
 ghost use Rattle.hs_measure.specs.Promised.{IsAtRest};
-ghost use Rattle.hs_standing.specs.Run.{IsRunning, MayRun};
+ghost use Rattle.hs_settled.specs.Moving.{IsMoving};
+ghost use Rattle.hs_standing.specs.Run.{MayRun, RunsBefore};
 ghost use Rattle.hs_standing.specs.Standing.{AllMayKeep};
 ghost use Rattle.hs_standing.specs.Start.{Start};
 
-use hs_deletion::rounds_run_in_step;
+use hs_deletion::{a_run_goes_on, rounds_run_in_step};
 use hs_joint::folds_follow_the_machine;
-use hs_settled::{each_operation_goes_on, nothing_waits_where_no_job_is_left};
-use hs_standing::a_run_goes_on;
+use hs_standing::each_event_is_told;
+use hs_told::answers_stay_in_order;
 
-/// Where the pool has the room of the limits, which is more than the last two rounds of one lead take:
-/// behind the events that are due for a settle, to their end, nothing is open in a run over sound
-/// lists, with one copy of each shard. Each client's line up to the last one has its entry, and the
-/// store that the journal leaves is level.
+/// Where the pool has more room than the last two rounds of one lead take: behind the events that are
+/// due for a settle, to their end, nothing is open in a run over sound lists, for any number of copies.
+/// Each client's line up to the last one has its entry, and the store that the journal leaves is level.
 pub fn a_settle_leaves_nothing_open()
-    ensures { (start : Start) (c : Whole) (line : ℕ) (events : Events)
-        → IsRunning start c → IsMoving start.set.name c
-        → c.core.pool.limit ≡ start.set.limits.pool
-        → 2 * start.set.shape.shards < start.set.limits.pool
-        → AllMayKeep start (MayRun start) c.core events
-        → (steps c.core events).ended ≡ None
-        → is_walk next_due true line c.core events ≡ true →
-        IsAtRest start (steps c.core events) }
+    ensures { (start : Start) (core : Core) (line : ℕ) (events : Events)
+        → RunsBefore start core events → IsMoving start.set.name core
+        → 2 * (shape_of core).shards < core.pool.limit
+        → AllMayKeep start (MayRun start) core events
+        → (steps core events).ended ≡ None
+        → is_walk next_due true line core events ≡ true →
+        IsAtRest start (steps core events) }
 {
-    a_run_goes_on();
-    each_operation_goes_on();
-    nothing_waits_where_no_job_is_left();
+    answers_stay_in_order();
+    each_event_is_told();
     folds_follow_the_machine();
     rounds_run_in_step();
-    hs_deletion::a_run_goes_on();
+    a_run_goes_on();
 }

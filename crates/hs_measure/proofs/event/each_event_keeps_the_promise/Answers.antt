@@ -13,7 +13,7 @@ returns-clause-events c = λ start core events r may its n.
       turns = c.answers_stay_in_order.ensures.events;
       ordered = c.answers_stay_in_order.ensures.with_refused;
     } in
-    front_keeps laws start core events r may its n
+    front_keeps start core events r may laws its n
 
 pub returns-clause-run : goal.returns-clause-run
 returns-clause-run c = λ start found events begins may n.
@@ -30,5 +30,5 @@ returns-clause-run c = λ start found events begins may n.
       turn = c.answers_stay_in_order.ensures.opens;
       stands = c.each_event_is_told.ensures.opens;
     } in
-    front_keeps laws start (first_core start.set found) events (begins_before opened start found begins events) may
+    front_keeps start (first_core start.set found) events (begins_before opened start found begins events) may laws
     (c.each_event_keeps_the_rule_of_done.ensures.opens (judging_of start) start.entry start.set.shape start.set.limits (opens_with start.set found) found.opened) n

@@ -1,7 +1,6 @@
 use Rattle.hs_measure.proofs.AlongLemmas.{AlongLaws, LineLaws}
 use Rattle.hs_measure.proofs.line.each_line_keeps_the_promise.Goals as goal
 use Rattle.hs_measure.proofs.LineLemmas.{keeps, rests}
-use Rattle.hs_measure.proofs.OpenedLemmas.{moves_on}
 
 pub returns-clause-keeps : goal.returns-clause-keeps
 returns-clause-keeps g c = λ start line asked before now old new disks left result told its next asks later runs.
@@ -9,7 +8,7 @@ returns-clause-keeps g c = λ start line asked before now old new disks left res
       events = c.each_event_keeps_the_promise.ensures.events;
       told = c.each_report_tells_its_block.ensures.told;
       reads = c.a_run_reads_on.ensures.goes_on;
-      moves = moves_on c.each_operation_goes_on.ensures.events;
+      moves = c.each_operation_goes_on.ensures.events;
     } in
     let lines : LineLaws = record {
       come = c.a_scripts_events_may_come.ensures.lines;
@@ -24,7 +23,7 @@ returns-clause-rests g c = λ start line asked before now old new disks left res
       events = c.each_event_keeps_the_promise.ensures.events;
       told = c.each_report_tells_its_block.ensures.told;
       reads = c.a_run_reads_on.ensures.goes_on;
-      moves = moves_on c.each_operation_goes_on.ensures.events;
+      moves = c.each_operation_goes_on.ensures.events;
     } in
     let lines : LineLaws = record {
       come = c.a_scripts_events_may_come.ensures.lines;

@@ -1,6 +1,6 @@
 use Rattle.hs_measure.proofs.AlongLemmas.{AlongLaws}
 use Rattle.hs_measure.proofs.opened.a_cluster_opens_in_a_run.Goals as goal
-use Rattle.hs_measure.proofs.OpenedLemmas.{OpeningLaws, OpenLaws, moves_on, opens_keeps}
+use Rattle.hs_measure.proofs.OpenedLemmas.{OpeningLaws, OpenLaws, opens_keeps}
 
 pub returns : goal.returns
 returns g c = λ set commands span cluster done told shape one names nobody opens going sound.
@@ -8,7 +8,7 @@ returns g c = λ set commands span cluster done told shape one names nobody open
       events = c.each_event_keeps_the_promise.ensures.events;
       told = c.each_report_tells_its_block.ensures.told;
       reads = c.a_run_reads_on.ensures.goes_on;
-      moves = moves_on c.each_operation_goes_on.ensures.events;
+      moves = c.each_operation_goes_on.ensures.events;
     } in
     let opening : OpeningLaws = record {
       memory = c.catalogues_in_memory_are_folds.ensures.list;

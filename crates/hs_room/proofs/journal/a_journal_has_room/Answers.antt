@@ -7,7 +7,7 @@ pub returns-clause-events : goal.returns-clause-events
 returns-clause-events c = λ start found events opens may own n.
     let laws : RoomLaws = record {
       keeps = λ start found events opens may n. c.each_event_keeps_the_promise.ensures.run start found events (run_begins start found opens) may n;
-      led = c.the_first_shard_enters_for_a_line.ensures;
+      led = λ start found events opens may. c.the_first_shard_enters_for_a_line.ensures start found events (run_begins start found opens) may;
       opens = c.a_run_goes_on.ensures.opens;
     } in
     room_at laws start found events opens may own n
