@@ -20,7 +20,6 @@ use Rattle.hs_journal.specs.declared.entry.JournalEntry.{JournalEntry}
 use Rattle.hs_limits.specs.Shape.{IsShape}
 use Rattle.hs_limits.specs.declared.address.Address.{Address}
 use Rattle.hs_model.specs.declared.command.Command.{Command}
-use Rattle.hs_model.specs.declared.command.Command.{Command}
 use Rattle.hs_moments.specs.Moments.{Since}
 use Rattle.hs_promise.specs.Found.{HasFound}
 use Rattle.hs_promise.specs.Machine.{Went}

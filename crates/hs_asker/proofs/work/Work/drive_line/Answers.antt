@@ -1,4 +1,4 @@
-use Rattle.std.proofs.Common.{◌≡◌, ◌∙◌, ◌++◌, ◌∷◌, [], ap, map}
+use Rattle.std.proofs.Common.{◌∙◌, ◌++◌, ◌∷◌, [], ap, map}
 use Rattle.hs_asker.proofs.DrivenLemmas.{drives_one, drives_refused, drives_short}
 use Rattle.hs_asker.proofs.LinesLemmas.{drives_served}
 use Rattle.hs_asker.proofs.work.Work.drive_line.Goals as goal
