@@ -10,7 +10,7 @@ use Rattle.hs_asker.specs.Going.{AtEntry, Inside, IsAsker}
 use Rattle.hs_asker.specs.Shows.{Asking, IsAnswering, IsTold, began_by, shown_in, shows_of}
 
 abbrev pub asking_in : Inside → Asking
-asking_in s = record { asked = s.asked; journal = s.cluster.core.journal; ended = s.ended }
+asking_in s = record { said = s.said; journal = s.cluster.core.journal; ended = s.ended }
 
 module _ (tells : Type 0) (name : List ℕ → Address) (e : AtEntry) (s : Inside) (h : IsAsker tells name e s) (told : IsTold tells e) where
   answering : IsAnswering e s

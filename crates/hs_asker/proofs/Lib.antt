@@ -1,6 +1,8 @@
 pub mod AskedLemmas
+pub mod BehindLemmas
 pub mod ClosedLemmas
 pub mod DoneLemmas
+pub mod DrivenLemmas
 pub mod EndsLemmas
 pub mod HeardLemmas
 pub mod HubLemmas

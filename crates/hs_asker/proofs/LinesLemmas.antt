@@ -1,11 +1,13 @@
 -- The commands of what was asked for.
-use Rattle.std.proofs.Common.{◌≡◌, ◌∙◌, ap, subst, ℕ, suc, ◌+◌, ◌-◌, ◌<◌, ◌==◌, Bool, true, false, List, [], ◌∷◌, ◌++◌, Option, Some, None, refl, arith, length, if◌then◌else◌}
-use Rattle.std.proofs.lemmas.Grind.{flat_map-append}
+use Rattle.std.proofs.Common.{◌≡◌, ◌∙◌, ap, ℕ, suc, ◌+◌, ◌-◌, ◌<◌, ◌==◌, Bool, true, false, List, [], ◌∷◌, ◌++◌, Option, Some, None, refl, arith, append-nil, length, if◌then◌else◌}
+use Rattle.std.proofs.lemmas.List.Elements.{filter_map-append}
+use Rattle.std.specs.List.{AllByRecursion, filter_map}
+use Rattle.hs_events.specs.Commands.{is_served}
 use Rattle.hs_journal.specs.Events.{client_op}
 use Rattle.hs_model.specs.declared.command.Command.{Command}
 use Rattle.hs_model.specs.declared.command.Command.TheVariants as command
 use Rattle.hs_model.specs.declared.op.Op.{Op}
-use Rattle.hs_asker.specs.Lines.{AreAsked, command_at, commands_of, lines_of}
+use Rattle.hs_asker.specs.Lines.{AreAsked, IsDriving, IsOfAsker, command_at, ops_of}
 
 -- ---- by number
 
@@ -52,57 +54,112 @@ asked_less commands said c h = λ n d at. h n d (command_front said (c ∷ []) n
 pub asked_last : (commands : ℕ → Option Command) (said : List Command) (c : Command) → AreAsked commands (said ++ c ∷ []) → commands (length said + 1) ≡ Some c
 asked_last commands said c h = h (length said + 1) c (command_last said c)
 
--- an operation more has two lines more
-pub lines_more : (ops : List Op) (o : Op) → lines_of (ops ++ o ∷ []) ≡ (lines_of ops ++ command.Client o ∷ []) ++ command.Settle ∷ []
-lines_more ops o = flat_map-append (λ (x : Op). command.Client x ∷ command.Settle ∷ []) ops (o ∷ []) ∙ two (lines_of ops)
-  where
-    two : (cs : List Command) → cs ++ (command.Client o ∷ command.Settle ∷ []) ≡ (cs ++ command.Client o ∷ []) ++ command.Settle ∷ []
-    two [] = refl
-    two (c ∷ cs) = ap (λ (rest : List Command). c ∷ rest) (two cs)
-
 pub are_asked : (said : List Command) → AreAsked (command_at said) said
 are_asked said = λ n c h. h
 
--- the commands of some operations and one more begin with the lines of those and that one's
-pub asked_both : (ops : List Op) (o : Op) → AreAsked (commands_of (ops ++ o ∷ [])) ((lines_of ops ++ command.Client o ∷ []) ++ command.Settle ∷ [])
-asked_both ops o = subst (λ (said : List Command). AreAsked (commands_of (ops ++ o ∷ [])) said) (lines_more ops o) (λ n c h. h)
+-- the commands of some lines begin with the first ones
+pub asked_front : (said more : List Command) → AreAsked (command_at (said ++ more)) said
+asked_front said more = λ n c at. command_front said more n c at
 
-pub asked_one : (ops : List Op) (o : Op) → AreAsked (commands_of (ops ++ o ∷ [])) (lines_of ops ++ command.Client o ∷ [])
-asked_one ops o = asked_less (commands_of (ops ++ o ∷ [])) (lines_of ops ++ command.Client o ∷ []) command.Settle (asked_both ops o)
+-- ---- lines that drive
 
-pub asked_none : (ops : List Op) (o : Op) → AreAsked (commands_of (ops ++ o ∷ [])) (lines_of ops)
-asked_none ops o = asked_less (commands_of (ops ++ o ∷ [])) (lines_of ops) (command.Client o) (asked_one ops o)
+pub drives_none : (c : Command) → IsDriving c → client_op (Some c) ≡ None
+drives_none (command.Client o) h = cc h
+drives_none command.Settle h = refl
+drives_none (command.Turn peer) h = refl
+drives_none (command.Nudge peer) h = refl
+drives_none (command.Deliver message) h = refl
+drives_none (command.Lose message) h = refl
+drives_none (command.Repeat message) h = refl
+drives_none (command.Fail peer) h = refl
+drives_none (command.Start peer) h = refl
+drives_none (command.Reclaim peer) h = refl
+
+pub drives_served : (c : Command) → IsDriving c → is_served c ≡ true
+drives_served (command.Client o) h = refl
+drives_served command.Settle h = refl
+drives_served (command.Turn peer) h = refl
+drives_served (command.Nudge peer) h = refl
+drives_served (command.Deliver message) h = refl
+drives_served (command.Lose message) h = refl
+drives_served (command.Repeat message) h = refl
+drives_served (command.Fail peer) h = refl
+drives_served (command.Start peer) h = refl
+drives_served (command.Reclaim peer) h = cc h
+
+drives_of_asker : (c : Command) → IsDriving c → IsOfAsker c
+drives_of_asker (command.Client o) h = tt
+drives_of_asker command.Settle h = h
+drives_of_asker (command.Turn peer) h = h
+drives_of_asker (command.Nudge peer) h = h
+drives_of_asker (command.Deliver message) h = h
+drives_of_asker (command.Lose message) h = h
+drives_of_asker (command.Repeat message) h = h
+drives_of_asker (command.Fail peer) h = h
+drives_of_asker (command.Start peer) h = h
+drives_of_asker (command.Reclaim peer) h = h
+
+pub all_of_asker : (said : List Command) → AllByRecursion IsDriving said → AllByRecursion IsOfAsker said
+all_of_asker [] h = tt
+all_of_asker (c ∷ cs) h = (drives_of_asker c h.0, all_of_asker cs h.1)
 
 -- ---- what a client asks for
 
--- of the lines of an operation more, its first is that operation's, and every other asks as before
-client_more : (cs : List Command) (o : Op) (n : ℕ) → (n ≡ length cs + 1 → ⊥) → client_op (command_at (cs ++ (command.Client o ∷ command.Settle ∷ [])) n) ≡ client_op (command_at cs n)
-client_more [] o n other = first (n == 1) refl (n - 1 == 1)
+-- lines that drive ask for nothing
+ops_none : (said : List Command) → AllByRecursion IsDriving said → ops_of said ≡ []
+ops_none [] h = refl
+ops_none (c ∷ cs) h = go (client_op (Some c)) (drives_none c h.0) (ops_none cs h.1)
+  where
+    go : (o : Option Op) → o ≡ None → ops_of cs ≡ [] → filter_map (λ (c : Command). client_op (Some c)) (c ∷ cs) ≡ []
+    go o e rest = rw (drives_none c h.0) rest
+
+pub ops_more : (said more : List Command) (o : Op) → AllByRecursion IsDriving more → ops_of ((said ++ command.Client o ∷ []) ++ more) ≡ ops_of said ++ o ∷ []
+ops_more said more o h =
+    let f : Command → Option Op = λ c. client_op (Some c) in
+    filter_map-append f (said ++ command.Client o ∷ []) more
+    ∙ ap (λ (rest : List Op). ops_of (said ++ command.Client o ∷ []) ++ rest) (ops_none more h)
+    ∙ append-nil (ops_of (said ++ command.Client o ∷ []))
+    ∙ filter_map-append f said (command.Client o ∷ [])
+
+none_asked : (more : List Command) (n : ℕ) → AllByRecursion IsDriving more → client_op (command_at more n) ≡ None
+none_asked [] n h = refl
+none_asked (c ∷ cs) n h = go (none_asked cs (n - 1) h.1) (n == 1)
+  where
+    go : client_op (command_at cs (n - 1)) ≡ None → (b : Bool) → client_op (if b then Some c else command_at cs (n - 1)) ≡ None
+    go rest true = drives_none c h.0
+    go rest false = rest
+
+-- behind lines that drive every line asks as before
+client_driven : (said more : List Command) (n : ℕ) → AllByRecursion IsDriving more → client_op (command_at (said ++ more) n) ≡ client_op (command_at said n)
+client_driven [] more n h = none_asked more n h
+client_driven (x ∷ xs) more n h = go (client_driven xs more (n - 1) h) (n == 1)
+  where
+    go : client_op (command_at (xs ++ more) (n - 1)) ≡ client_op (command_at xs (n - 1)) → (b : Bool) → client_op (if b then Some x else command_at (xs ++ more) (n - 1)) ≡ client_op (if b then Some x else command_at xs (n - 1))
+    go rest true = refl
+    go rest false = rest
+
+-- behind one that asks every other does
+client_more : (cs : List Command) (o : Op) (n : ℕ) → (n ≡ length cs + 1 → ⊥) → client_op (command_at (cs ++ command.Client o ∷ []) n) ≡ client_op (command_at cs n)
+client_more [] o n other = first (n == 1) refl
   where
     is_one : (n : ℕ) → (n == 1) ≡ true → n ≡ 1
     is_one n e = grind (arith, e)
 
-    first : (b : Bool) → (n == 1) ≡ b → (c : Bool) → client_op (if b then Some (command.Client o) else (if c then Some command.Settle else None)) ≡ None
-    first true e c = absurd (other (is_one n e))
-    first false e true = refl
-    first false e false = refl
+    first : (b : Bool) → (n == 1) ≡ b → client_op (if b then Some (command.Client o) else None) ≡ None
+    first true e = absurd (other (is_one n e))
+    first false e = refl
 client_more (x ∷ cs) o n other = go (client_more cs o (n - 1)) (n == 1) refl
   where
     zero_or : (n : ℕ) → (n == 1) ≡ false → n - 1 ≡ length cs + 1 → n ≡ suc (length cs) + 1
     zero_or n e k = grind (arith, e, k)
 
-    go : ((n - 1 ≡ length cs + 1 → ⊥) → client_op (command_at (cs ++ (command.Client o ∷ command.Settle ∷ [])) (n - 1)) ≡ client_op (command_at cs (n - 1)))
-        → (b : Bool) → (n == 1) ≡ b → client_op (if b then Some x else command_at (cs ++ (command.Client o ∷ command.Settle ∷ [])) (n - 1)) ≡ client_op (if b then Some x else command_at cs (n - 1))
+    go : ((n - 1 ≡ length cs + 1 → ⊥) → client_op (command_at (cs ++ command.Client o ∷ []) (n - 1)) ≡ client_op (command_at cs (n - 1)))
+        → (b : Bool) → (n == 1) ≡ b → client_op (if b then Some x else command_at (cs ++ command.Client o ∷ []) (n - 1)) ≡ client_op (if b then Some x else command_at cs (n - 1))
     go rest true e = refl
     go rest false e = rest (λ is. other (zero_or n e is))
 
-more_is : (ops : List Op) (o : Op) → lines_of (ops ++ o ∷ []) ≡ lines_of ops ++ (command.Client o ∷ command.Settle ∷ [])
-more_is ops o = flat_map-append (λ (x : Op). command.Client x ∷ command.Settle ∷ []) ops (o ∷ [])
+pub asks_there : (said more : List Command) (o : Op) → AllByRecursion IsDriving more → client_op (command_at ((said ++ command.Client o ∷ []) ++ more) (length said + 1)) ≡ Some o
+asks_there said more o h = client_driven (said ++ command.Client o ∷ []) more (length said + 1) h ∙ ap client_op (command_last said (command.Client o))
 
-pub asks_there : (ops : List Op) (o : Op) → client_op (commands_of (ops ++ o ∷ []) (length (lines_of ops) + 1)) ≡ Some o
-asks_there ops o =
-    ap (λ (cs : List Command). client_op (command_at cs (length (lines_of ops) + 1))) (more_is ops o)
-    ∙ ap client_op (command_behind (lines_of ops) (command.Client o ∷ command.Settle ∷ []) 1 (omega arith))
-
-pub asks_other : (ops : List Op) (o : Op) (n : ℕ) → (n ≡ length (lines_of ops) + 1 → ⊥) → client_op (commands_of (ops ++ o ∷ []) n) ≡ client_op (commands_of ops n)
-asks_other ops o n other = ap (λ (cs : List Command). client_op (command_at cs n)) (more_is ops o) ∙ client_more (lines_of ops) o n other
+pub asks_other : (said more : List Command) (o : Op) (n : ℕ) → AllByRecursion IsDriving more → (n ≡ length said + 1 → ⊥) → client_op (command_at ((said ++ command.Client o ∷ []) ++ more) n) ≡ client_op (command_at said n)
+asks_other said more o n h other = client_driven (said ++ command.Client o ∷ []) more n h ∙ client_more said o n other

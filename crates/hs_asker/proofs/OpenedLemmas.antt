@@ -20,7 +20,6 @@ use Rattle.hs_journal.specs.declared.entry.JournalEntry.{JournalEntry}
 use Rattle.hs_limits.specs.Shape.{IsShape}
 use Rattle.hs_limits.specs.declared.address.Address.{Address}
 use Rattle.hs_model.specs.declared.command.Command.{Command}
-use Rattle.hs_model.specs.declared.op.Op.{Op}
 use Rattle.hs_moments.specs.Moments.{Since}
 use Rattle.hs_promise.specs.Found.{HasFound}
 use Rattle.hs_promise.specs.Machine.{Went}
@@ -195,41 +194,43 @@ module _ (tells : Type 0) (set : Setting) (span : Taking) (running : Running) (s
   handed = record { set = set; moment = span.before; disks = span.old }
 
   ended_asker : (why : CoreFault) → IsOfCluster tells (record { set = set; commands = λ n. None }) (ran_at (status_by (Some why)) 0 (Some running) (silent span.before span.old) (silent span.now span.new))
-      → IsAsker tells set.name handed (record { asked = []; now = span.now; cluster = running; disks = span.new; line = 0; ended = Some why })
+      → IsAsker tells set.name handed (record { said = []; now = span.now; cluster = running; disks = span.new; line = 0; ended = Some why })
   ended_asker why h = record {
     named = refl;
     shape = shape;
     count = count;
     left = left;
+    askers = tt;
     going = λ none. absurd (some_not why none);
     ended = λ fault is. subst (λ (f : CoreFault). HasStopped tells handed [] (point_of span.now running span.new 0) f) (some_is why fault is) h;
   }
 
   -- its core has ended as it opened
-  pub shut_asker : (fault : ClusterFault) → Opens tells set span running (Err fault) → IsAsker tells set.name handed (record { asked = []; now = span.now; cluster = running; disks = span.new; line = 0; ended = Some (core_of fault) })
+  pub shut_asker : (fault : ClusterFault) → Opens tells set span running (Err fault) → IsAsker tells set.name handed (record { said = []; now = span.now; cluster = running; disks = span.new; line = 0; ended = Some (core_of fault) })
   shut_asker fault opens = ended_asker (core_of fault) (opened_ended tells set span running fault opens since shape count left)
 
   -- its core goes on
   pub open_asker : (did : Result ⊤ ClusterFault) → Opens tells set span running did → is_ok did ≡ true → running.core.members.shape ≡ set.shape → AreReady tells running.logs span.new → (why : Option CoreFault)
       → (why ≡ None → AllByRecursion IsOfNoLine running.core.journal) → IfSome why (λ fault. fault ≡ core.NoMemory)
-      → IsAsker tells set.name handed (record { asked = []; now = span.now; cluster = running; disks = span.new; line = 0; ended = why })
+      → IsAsker tells set.name handed (record { said = []; now = span.now; cluster = running; disks = span.new; line = 0; ended = why })
   open_asker did opens fine alike ready None lines only = record {
     named = refl;
     shape = shape;
     count = count;
     left = left;
+    askers = tt;
     going = λ none. opened_going tells set span running did opens since shape count left fine alike ready (lines refl);
     ended = λ fault is. absurd (none_not fault is);
   }
   open_asker did opens fine alike ready (Some fault) lines only =
-      subst (λ (f : CoreFault). IsAsker tells set.name handed (record { asked = []; now = span.now; cluster = running; disks = span.new; line = 0; ended = Some f })) (sym only)
+      subst (λ (f : CoreFault). IsAsker tells set.name handed (record { said = []; now = span.now; cluster = running; disks = span.new; line = 0; ended = Some f })) (sym only)
       (ended_asker core.NoMemory (opened_wanting tells set span running did opens since shape count left fine))
 
 -- as it stands in what is handed back
-pub asker_as : (tells : Type 0) (name : List ℕ → Address) (e handed : AtEntry) (asked : List Op) (now : ℕ) (cluster : Running) (disks seen : List DiskSeen) (ended because : Option CoreFault) → e ≡ handed → asked ≡ [] → seen ≡ disks → ended ≡ because
-    → IsAsker tells name handed (record { asked = []; now = now; cluster = cluster; disks = disks; line = 0; ended = because }) → IsAsker tells name e (record { asked = asked; now = now; cluster = cluster; disks = seen; line = 0; ended = ended })
-asker_as tells name e handed asked now cluster disks seen ended because entry none same end h =
-    subst (λ (x : AtEntry). IsAsker tells name x (record { asked = asked; now = now; cluster = cluster; disks = seen; line = 0; ended = ended })) (sym entry)
-    (subst (λ (ops : List Op). IsAsker tells name handed (record { asked = ops; now = now; cluster = cluster; disks = seen; line = 0; ended = ended })) (sym none)
-    (subst (λ (ds : List DiskSeen). IsAsker tells name handed (record { asked = []; now = now; cluster = cluster; disks = ds; line = 0; ended = ended })) (sym same)
-    (subst (λ (o : Option CoreFault). IsAsker tells name handed (record { asked = []; now = now; cluster = cluster; disks = disks; line = 0; ended = o })) (sym end) h)))
+pub asker_as : (tells : Type 0) (name : List ℕ → Address) (e handed : AtEntry) (said : List Command) (now : ℕ) (cluster : Running) (disks seen : List DiskSeen) (ended because : Option CoreFault) → e ≡ handed → said ≡ [] → seen ≡ disks → ended ≡ because
+    → IsAsker tells name handed (record { said = []; now = now; cluster = cluster; disks = disks; line = 0; ended = because }) → IsAsker tells name e (record { said = said; now = now; cluster = cluster; disks = seen; line = 0; ended = ended })
+asker_as tells name e handed said now cluster disks seen ended because entry none same end h =
+    subst (λ (x : AtEntry). IsAsker tells name x (record { said = said; now = now; cluster = cluster; disks = seen; line = 0; ended = ended })) (sym entry)
+    (subst (λ (lines : List Command). IsAsker tells name handed (record { said = lines; now = now; cluster = cluster; disks = seen; line = 0; ended = ended })) (sym none)
+    (subst (λ (ds : List DiskSeen). IsAsker tells name handed (record { said = []; now = now; cluster = cluster; disks = ds; line = 0; ended = ended })) (sym same)
+    (subst (λ (o : Option CoreFault). IsAsker tells name handed (record { said = []; now = now; cluster = cluster; disks = disks; line = 0; ended = o })) (sym end) h)))

@@ -14,14 +14,13 @@ use Rattle.hs_fold.specs.Shards.Setting.{Setting}
 use Rattle.hs_limits.specs.Shape.{IsShape}
 use Rattle.hs_limits.specs.declared.address.Address.{Address}
 use Rattle.hs_model.specs.declared.command.Command.{Command}
-use Rattle.hs_model.specs.declared.op.Op.{Op}
 use Rattle.hs_moments.specs.Moments.{Since}
 use Rattle.hs_run.specs.Between.{IsReadyAt, Point, span_of}
 use Rattle.hs_run.specs.Ended.{ran_at}
 use Rattle.hs_run.specs.Going.{AreGone, Begun, HasShown, IsBehind, script_by}
 use Rattle.hs_run.specs.Machine.{IsOfCluster}
 use Rattle.hs_asker.specs.Answer.{IsUpTo}
-use Rattle.hs_asker.specs.Lines.{AreAsked, lines_of}
+use Rattle.hs_asker.specs.Lines.{AreAsked, IsOfAsker}
 use Rattle.hs_asker.specs.Silent.{asking_script, silent, status_by}
 
 -- ---- where it stands
@@ -60,9 +59,9 @@ begun_by e found first opening = record { set = e.set; old = silent e.moment e.d
 
 -- ---- all of it
 
--- what was asked for, where it stands, and why it has ended, if it has
+-- the lines that were begun, where it stands, and why it has ended, if it has
 pub record Inside : Type 0 where
-  pub asked : List Op
+  pub said : List Command
   pub now : ℕ
   pub cluster : Running
   pub disks : List DiskSeen
@@ -73,20 +72,20 @@ abbrev pub at_of : Inside → Point
 at_of s = point_of s.now s.cluster s.disks s.line
 
 -- it may be asked on
-pub record IsGoing (tells : Type 0) (e : AtEntry) (asked : List Op) (at : Point) : Type 0 where
+pub record IsGoing (tells : Type 0) (e : AtEntry) (said : List Command) (at : Point) : Type 0 where
   pub found : Found
   pub first : Running
   pub opening : Events
   pub lines : List Events
-  pub done : HasDone (begun_by e found first opening) (lines_of asked) lines at
+  pub done : HasDone (begun_by e found first opening) said lines at
   pub shows : HasShown tells (begun_by e found first opening) lines at
   pub ready : IsReadyAt tells at
   pub up_to : AllByRecursion (IsUpTo at.line) at.cluster.core.journal
 
 -- it has ended, and its run is the machine's
-abbrev pub HasStopped : Type 0 → AtEntry → List Op → Point → CoreFault → Type 0
-HasStopped tells e asked at fault =
-    IsOfCluster tells (asking_script e.set asked) (ran_at (status_by (Some fault)) at.line (Some at.cluster) (silent e.moment e.disks) (silent at.now at.disks))
+abbrev pub HasStopped : Type 0 → AtEntry → List Command → Point → CoreFault → Type 0
+HasStopped tells e said at fault =
+    IsOfCluster tells (asking_script e.set said) (ran_at (status_by (Some fault)) at.line (Some at.cluster) (silent e.moment e.disks) (silent at.now at.disks))
 
 -- from what it was handed on, with this naming
 pub record IsAsker (tells : Type 0) (name : List ℕ → Address) (e : AtEntry) (s : Inside) : Type 0 where
@@ -94,5 +93,6 @@ pub record IsAsker (tells : Type 0) (name : List ℕ → Address) (e : AtEntry) 
   pub shape : IsShape e.set.shape
   pub count : length e.disks ≡ e.set.shape.shards * e.set.shape.copies
   pub left : length s.disks ≡ length e.disks
-  pub going : s.ended ≡ None → IsGoing tells e s.asked (at_of s)
-  pub ended : (fault : CoreFault) → s.ended ≡ Some fault → HasStopped tells e s.asked (at_of s) fault
+  pub askers : AllByRecursion IsOfAsker s.said
+  pub going : s.ended ≡ None → IsGoing tells e s.said (at_of s)
+  pub ended : (fault : CoreFault) → s.ended ≡ Some fault → HasStopped tells e s.said (at_of s) fault

@@ -1,5 +1,6 @@
 pub mod Answer
 pub mod Asked
+pub mod Driven
 pub mod Going
 pub mod Kinds
 pub mod Lines

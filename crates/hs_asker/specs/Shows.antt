@@ -8,15 +8,15 @@ use Rattle.hs_fold.specs.Runs.Opened.{opened}
 use Rattle.hs_fold.specs.Shards.Setting.{Numbered}
 use Rattle.hs_journal.specs.declared.entry.JournalEntry.{JournalEntry}
 use Rattle.hs_model.specs.Store.{held_at as store_held}
-use Rattle.hs_model.specs.declared.op.Op.{Op}
+use Rattle.hs_model.specs.declared.command.Command.{Command}
 use Rattle.hs_side.specs.Current.{list_in}
 use Rattle.hs_tokens.specs.Seats.{held_at, seat_of}
 use Rattle.hs_asker.specs.Going.{AtEntry, Inside, IsAsker}
-use Rattle.hs_asker.specs.Lines.{commands_of}
+use Rattle.hs_asker.specs.Lines.{command_at, ops_of}
 
--- what was asked for, what was answered, and why it ended, if it has
+-- the lines that were begun, what was answered, and why it ended, if it has
 pub record Asking : Type 0 where
-  pub asked : List Op
+  pub said : List Command
   pub journal : List JournalEntry
   pub ended : Option CoreFault
 
@@ -30,7 +30,7 @@ began_by e = record { name = e.set.name; limits = e.set.limits; store = opened e
 
 -- what an asker shows that stands so, under no condition
 abbrev pub shown_in : AtEntry → Inside → Shown ⊤
-shown_in e s = record { asked = s.asked; commands = commands_of s.asked; journal = s.cluster.core.journal; ended = s.ended; began = began_by e }
+shown_in e s = record { asked = ops_of s.said; commands = command_at s.said; journal = s.cluster.core.journal; ended = s.ended; began = began_by e }
 
 -- what it shows is lawful from there, and while it goes on a handle stands for what the plain store holds
 pub record IsAnswering (e : AtEntry) (s : Inside) : Type 0 where
@@ -42,4 +42,4 @@ abbrev pub IsTold : Type 0 → AtEntry → Type 0
 IsTold tells e = (s : Inside) → IsAsker tells e.set.name e s → IsAnswering e s
 
 abbrev pub shows_of : (tells : Type 0) (e : AtEntry) → Asking → Shown (IsTold tells e)
-shows_of tells e a = record { asked = a.asked; commands = commands_of a.asked; journal = a.journal; ended = a.ended; began = began_by e }
+shows_of tells e a = record { asked = ops_of a.said; commands = command_at a.said; journal = a.journal; ended = a.ended; began = began_by e }

@@ -8,12 +8,12 @@ use Rattle.hs_desk.specs.declared.fault.CoreFault.TheVariants as core
 use Rattle.hs_fold.specs.Shards.Setting.{Setting}
 use Rattle.hs_journal.specs.declared.entry.JournalEntry.{JournalEntry}
 use Rattle.hs_model.specs.declared.course.CourseItem.{CourseItem}
-use Rattle.hs_model.specs.declared.op.Op.{Op}
+use Rattle.hs_model.specs.declared.command.Command.{Command}
 use Rattle.hs_ports.specs.Objects.{Objects}
 use Rattle.hs_promise.specs.Run.{Ran, Script}
 use Rattle.hs_promise.specs.declared.status.Status.{Status}
 use Rattle.hs_promise.specs.declared.status.Status.TheVariants as status
-use Rattle.hs_asker.specs.Lines.{commands_of}
+use Rattle.hs_asker.specs.Lines.{command_at}
 
 -- a moment and some disks, with no source and no sink
 abbrev pub silent : ℕ → List DiskSeen → Objects
@@ -34,9 +34,9 @@ status_by (Some core.OpsFull) = status.OpsFull
 status_by (Some (core.ShardLost shard)) = status.ShardLost shard
 status_by (Some core.NoMemory) = status.NoMemory
 
--- the script of what was asked for
-abbrev pub asking_script : Setting → List Op → Script
-asking_script set ops = record { set = set; commands = commands_of ops }
+-- the script of some lines
+abbrev pub asking_script : Setting → List Command → Script
+asking_script set said = record { set = set; commands = command_at said }
 
 -- a run that ended so behind a line, with what was answered, refused and happened beside that, from a moment and some disks to others
 abbrev pub silent_run : Status → ℕ → List JournalEntry → List JournalEntry → List CourseItem → Objects → Objects → Ran

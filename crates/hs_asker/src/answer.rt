@@ -69,6 +69,18 @@ pub(crate) fn answer_behind(
     answer_of(alloc, &entries[from..], line, kind)
 }
 
+/// Whether a line has an entry behind the first of some.
+pub(crate) fn has_answer(entries: &[JournalEntry], from: usize, line: u64) -> bool {
+    for place in from..entries.len() {
+        if let Who::Line(number) = entries[place].who {
+            if number == line {
+                return true;
+            }
+        }
+    }
+    false
+}
+
 /// Whether no entry is of a line.
 pub(crate) fn are_of_no_line(entries: &[JournalEntry]) -> bool
     ensures { IsTrue result → AllByRecursion IsOfNoLine entries.now }

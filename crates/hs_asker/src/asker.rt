@@ -2,7 +2,7 @@
 ghost use Rattle.std.specs.List.{AllByRecursion};
 ghost use Rattle.std.specs.Prelude.{◌≡◌, ◌*◌, ◌<◌, ℕ, [], Err, IfErr, IfOk, IfSome, None, OnOk, Option, Some, length, map, vec_capacity, vec_len};
 ghost use Rattle.hs_asking.specs.Asked.{IsOfNoLine};
-ghost use Rattle.hs_asker.specs.Lines.{lines_of};
+ghost use Rattle.hs_asker.specs.Lines.{IsOfAsker};
 ghost use Rattle.hs_asker.specs.Silent.{IsOpenFault, asking_script, silent, silent_run, status_by};
 ghost use Rattle.hs_asker.specs.Shows.{IsTold, shows_of};
 ghost use Rattle.hs_cluster.specs.Disks.{seen_as};
@@ -22,14 +22,15 @@ use hs_block::Addresser;
 use hs_cluster::{Cluster, Opened};
 use hs_desk::CoreFault;
 use hs_limits::{Held, Limits, Name, Shape};
-use hs_model::{Op, Reply};
+use hs_model::{Command, Op, Reply};
 use hs_ports::{Disk, Watch};
 use std::alloc::Global;
 use std::marker::{Model, PhantomData};
 use std::snapshot::Snapshot;
 
-/// What asks a cluster for a client: each operation is a line, with a settle behind it. It has the disks
-/// and the watch until its end. Its type keeps what it was handed, and how it came to be as it is.
+/// What asks a cluster for a client: each operation is a line, with turns behind it until it is answered and
+/// one more of each peer, or a settle behind a root. It has the disks and the watch until its end. Its type
+/// keeps what it was handed, and how it came to be as it is.
 #[derive(Drop)]
 pub struct ClusterAsker<'a, H: Handed, A: Addresser, D: Disk> {
     naming: &'a A,
@@ -46,14 +47,14 @@ impl<'a, H: Handed, A: Addresser, D: Disk> Model for ClusterAsker<'a, H, A, D> {
     ghost Value = { Asking };
 
     ghost view = { λ a. record {
-      asked = map (λ said. said.value) a.work.asked.items;
+      said = map (λ said. said.value) a.work.said.items;
       journal = a.work.cluster.core.journal;
       ended = a.work.ended;
     } };
 
-    ghost invariant = { λ a. (a.work.ended ≡ None → vec_len a.work.asked < vec_capacity a.work.asked)
+    ghost invariant = { λ a. (a.work.ended ≡ None → vec_len a.work.said < vec_capacity a.work.said)
         × IsAsker D.tells (A.name a.naming.now) H.entry (record {
-          asked = map (λ said. said.value) a.work.asked.items;
+          said = map (λ said. said.value) a.work.said.items;
           now = a.work.watch;
           cluster = a.work.cluster;
           disks = map (λ disk. seen_as (D.size disk) (D.stands disk) (D.faults disk)) a.work.disks.items;
@@ -81,7 +82,7 @@ impl<'a, H: Handed, A: Addresser, D: Disk> ClusterAsker<'a, H, A, D> {
           moment = watch;
           disks = map (λ disk. seen_as (D.size disk) (D.stands disk) (D.faults disk)) disks.items;
         } }
-        ensures asked { IfOk result (λ asker. asker.asked ≡ []) }
+        ensures said { IfOk result (λ asker. asker.said ≡ []) }
         ensures closed { IfErr result (λ closed. (commands : ℕ → Option Command) ×
             IsOfCluster D.tells (record { set = H.entry.set; commands = commands })
             (silent_run (status_of (Err (of_cluster closed.fault)) 0) 0 [] [] []
@@ -111,10 +112,10 @@ impl<'a, H: Handed, A: Addresser, D: Disk> ClusterAsker<'a, H, A, D> {
                 });
             }
         };
-        let mut asked = Vec::new(alloc);
+        let mut said = Vec::new(alloc);
         let ended = match done {
             Err(fault) => Some(core_fault(fault)),
-            Ok(()) => first_fault(&cluster, &mut asked),
+            Ok(()) => first_fault(&cluster, &mut said),
         };
         let work = Work {
             alloc,
@@ -122,7 +123,7 @@ impl<'a, H: Handed, A: Addresser, D: Disk> ClusterAsker<'a, H, A, D> {
             disks,
             watch,
             line: 0,
-            asked,
+            said,
             ended,
         };
         Ok(ClusterAsker {
@@ -145,13 +146,14 @@ impl<'a, H: Handed, A: Addresser, D: Disk> ClusterAsker<'a, H, A, D> {
     pub fn into_told(self) -> AskerTold<D>
         ensures ended { result.ended ≡ self.entry.ended }
         ensures journal { result.journal.entries ≡ self.entry.journal }
-        ensures ran { IsOfCluster D.tells (asking_script H.entry.set self.entry.asked)
+        ensures ran { IsOfCluster D.tells (asking_script H.entry.set self.entry.said)
             (silent_run (status_by result.ended) result.line result.journal.entries result.refused
             result.course (silent H.entry.moment H.entry.disks)
             (silent result.watch
             (map (λ disk. seen_as (D.size disk) (D.stands disk) (D.faults disk)) result.disks.items))) }
-        // Where it goes on, both lines of each operation were begun.
-        ensures lines { self.entry.ended ≡ None → result.line ≡ length (lines_of self.entry.asked) }
+        // Where it goes on, all of them were begun. Each is that of an operation, a turn, or a settle.
+        ensures lines { self.entry.ended ≡ None → result.line ≡ length self.entry.said }
+        ensures askers { AllByRecursion IsOfAsker self.entry.said }
         ensures count { length result.disks.items ≡ length H.entry.disks }
     {
         let ClusterAsker {
@@ -165,7 +167,7 @@ impl<'a, H: Handed, A: Addresser, D: Disk> ClusterAsker<'a, H, A, D> {
             disks,
             watch,
             line,
-            asked: _,
+            said: _,
             ended,
         } = work;
         let (core, course) = cluster.into_told();
@@ -184,14 +186,14 @@ impl<'a, H: Handed, A: Addresser, D: Disk> ClusterAsker<'a, H, A, D> {
 }
 
 /// Room for the first operation, where opening told nothing of a line; else that counts as want of memory.
-fn first_fault(cluster: &Cluster, asked: &mut Vec<Snapshot<Op>>) -> Option<CoreFault>
-    requires { asked.old.items ≡ [] }
-    ensures items { asked.new.items ≡ [] }
-    ensures room { result ≡ None → vec_len asked.new < vec_capacity asked.new }
+fn first_fault(cluster: &Cluster, said: &mut Vec<Snapshot<Command>>) -> Option<CoreFault>
+    requires { said.old.items ≡ [] }
+    ensures items { said.new.items ≡ [] }
+    ensures room { result ≡ None → vec_len said.new < vec_capacity said.new }
     ensures lines { result ≡ None → AllByRecursion IsOfNoLine cluster.now.core.journal }
     ensures only { IfSome result (λ fault. fault ≡ NoMemory) }
 {
-    if !has_room(asked) || !are_of_no_line(cluster.journal().entries()) {
+    if !has_room(said) || !are_of_no_line(cluster.journal().entries()) {
         return Some(CoreFault::NoMemory);
     }
     None

@@ -4,11 +4,11 @@
 
 mod answer;
 mod asker;
+mod drive;
 mod ends;
 mod handed;
 mod kinds;
 mod line;
-mod operation;
 mod work;
 
 pub use asker::ClusterAsker;

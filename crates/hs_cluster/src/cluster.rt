@@ -1,10 +1,13 @@
 //! The core with the logs of its peers.
-ghost use Rattle.std.specs.Prelude.{◌≡◌, ◌*◌, [], None, length};
+ghost use Rattle.std.specs.Option.{option_map};
+ghost use Rattle.std.specs.Prelude.{◌≡◌, ◌*◌, ◌≤◌, [], None, false, length};
 ghost use Rattle.hs_cluster.specs.Resuming.{EndAsSealed};
+ghost use Rattle.hs_events.specs.Due.{next_turn, peer_due};
 ghost use Rattle.hs_tokens.specs.Seats.{held_at, seat_of};
 
 use hs_core::Core;
 use hs_desk::CoreFault;
+use hs_events::{Due, Place, next_turn, peers_of};
 use hs_journal::Journal;
 use hs_limits::{Held, ListOf, Name};
 use hs_model::CourseItem;
@@ -96,10 +99,48 @@ impl Cluster {
         self.core.held(session, handle)
     }
 
+    /// Whose turn is next where passes stand at a peer: the first one from it on, and round, that has a job
+    /// or a message. None exactly where nobody has a turn. A number above that of the peers counts as 0. It
+    /// takes no memory.
+    pub fn next_turn(&self, peer: u8) -> Option<u8>
+        ensures { peer ≤ self.now.core.members.shape.shards * self.now.core.members.shape.copies
+            → result ≡ option_map peer_due
+            (next_turn (record { peer = peer; nudger = 0; progress = false }) self.now.core) }
+    {
+        let place = Place {
+            peer: within(peer, peers_of(&self.core)),
+            nudger: 0,
+            progress: false,
+        };
+        match next_turn(&self.core, place) {
+            Some(due) => Some(peer_of(due)),
+            None => None,
+        }
+    }
+
     /// Why the core has ended. None exactly until a fault has ended it. It takes no memory.
     pub fn ended(&self) -> Option<CoreFault>
         ensures { result ≡ self.now.core.ended }
     {
         self.core.ended()
+    }
+}
+
+/// A number where it is at most another, and else 0.
+fn within(number: u8, most: u8) -> u8
+    ensures same { number ≤ most → result ≡ number }
+    ensures most { result ≤ most }
+{
+    if number <= most { number } else { 0 }
+}
+
+/// Whose turn it is.
+fn peer_of(due: Due) -> u8
+    ensures { result ≡ peer_due due }
+{
+    match due {
+        Due::Reporting { peer } => peer,
+        Due::Handling { peer, .. } => peer,
+        Due::Nudging { peer } => peer,
     }
 }

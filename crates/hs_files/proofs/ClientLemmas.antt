@@ -1,7 +1,8 @@
 -- The run of the machine beneath a command, and what the command has of it.
+use Rattle.std.specs.List.{AllByRecursion}
 use Rattle.std.proofs.Common.{◌≡◌, ◌⊎◌, inl, inr, ◌∙◌, ap, sym, subst, refl, ℕ, ◌≤◌, List, [], Option, None, Err, length, map}
 use Rattle.hs_asker.specs.Going.{AtEntry}
-use Rattle.hs_asker.specs.Lines.{commands_of, lines_of}
+use Rattle.hs_asker.specs.Lines.{IsOfAsker, command_at, ops_of}
 use Rattle.hs_asker.specs.Shows.{Asking, shows_of}
 use Rattle.hs_asker.specs.Silent.{IsOpenFault, asking_script, silent, silent_run, status_by}
 use Rattle.hs_cluster.specs.Disks.{DiskSeen}
@@ -112,25 +113,28 @@ module _ {X : Type 0} (f : X → DiskSeen) (h : X → Standing × ℕ) (stands :
   closed_ran ending now ys ran told = (ran.0, beneath_of ending 0 [] [] [] ran.0 now now ys ran.1 told)
 
   pub asks_of : (start behind : Asking) (ended : Option CoreFault) (lines : ℕ) (answered full : List JournalEntry) (items : List CourseItem) (until now : ℕ) (ys : List X)
-      → start.asked ≡ [] → ended ≡ behind.ended → answered ≡ behind.journal → until ≤ now → (behind.ended ≡ None → lines ≡ length (lines_of behind.asked))
-      → IsOfCluster tells (asking_script entry.set behind.asked) (silent_run (status_by ended) lines answered full items (silent entry.moment entry.disks) (silent until (map f ys)))
+      → start.said ≡ [] → ended ≡ behind.ended → answered ≡ behind.journal → until ≤ now → (behind.ended ≡ None → lines ≡ length behind.said) → AllByRecursion IsOfAsker behind.said
+      → IsOfCluster tells (asking_script entry.set behind.said) (silent_run (status_by ended) lines answered full items (silent entry.moment entry.disks) (silent until (map f ys)))
       → IsToldAs o lines answered full items
       → (asks : AsksAsClient tells name shape (ran_of o (handed before (map h xs) sink source) (handed now (map h ys) sink' source')) entry (shows_of tells entry start) (shows_of tells entry behind)) × (asks.until ≡ until)
-  asks_of start behind ended lines answered full items until now ys none same journal later begun ran told = (
+  asks_of start behind ended lines answered full items until now ys none same journal later begun askers ran told = (
     record {
       set = ap (λ (e : AtEntry). e.set) is;
       moment = ap (λ (e : AtEntry). e.moment) is;
       disks = subst (λ (ds : List DiskSeen). AreHanded (handed before (map h xs) sink source) ds) (sym (ap (λ (e : AtEntry). e.disks) is)) (record { stands = handed_stands f h stands xs; counts = handed_counts f h faults xs });
-      first = none;
+      first = ap ops_of none;
       began = refl;
-      started = refl;
+      started = ap command_at none;
+      said = behind.said;
+      askers = askers;
+      asked = refl;
       commands = refl;
       lines = λ going. told.line ∙ begun going;
       journal = told.journal ∙ journal;
       until = until;
       later = later;
-      machine = subst (λ (was : Option CoreFault). IsOfCluster tells (client_script name shape (commands_of behind.asked)) (beneath (ran_of o (handed before (map h xs) sink source) (handed now (map h ys) sink' source')) until (status_by was))) same
-          (beneath_of (status_by ended) lines answered full items (commands_of behind.asked) until now ys ran told);
+      machine = subst (λ (was : Option CoreFault). IsOfCluster tells (client_script name shape (command_at behind.said)) (beneath (ran_of o (handed before (map h xs) sink source) (handed now (map h ys) sink' source')) until (status_by was))) same
+          (beneath_of (status_by ended) lines answered full items (command_at behind.said) until now ys ran told);
     },
     refl,
   )

@@ -1,7 +1,7 @@
 -- A store that was opened for a client has no session before the client asks.
 use Rattle.std.proofs.Common.{◌≡◌, ◌∙◌, ap, sym, subst, refl, ℕ, List, [], ◌∷◌, Option, Some, None}
 use Rattle.hs_asker.specs.Going.{AtEntry}
-use Rattle.hs_asker.specs.Lines.{commands_of}
+use Rattle.hs_asker.specs.Lines.{command_at}
 use Rattle.hs_asker.specs.Shows.{Asking, IsTold, began_by, shows_of}
 use Rattle.hs_asking.specs.Shown.{store_now}
 use Rattle.hs_fold.specs.Shards.Setting.{Setting}
@@ -59,9 +59,9 @@ module _ (commands : ℕ → Option Command) (nobody : (n : ℕ) → client_op (
 
 -- ---- an asker that was opened
 
-module _ (tells : Type 0) (name : List ℕ → Address) (shape : Shape) (e : AtEntry) (set : e.set ≡ record { name = name; limits = greatest_limits; shape = shape }) (a : Asking) (none : a.asked ≡ []) where
+module _ (tells : Type 0) (name : List ℕ → Address) (shape : Shape) (e : AtEntry) (set : e.set ≡ record { name = name; limits = greatest_limits; shape = shape }) (a : Asking) (none : a.said ≡ []) where
   none_open : (store_now (began_by e) (shows_of tells e a)).sessions ≡ []
-  none_open = still_none (commands_of a.asked) (λ n. ap (λ (ops : List Op). client_op (commands_of ops n)) none) e.set.name e.set.limits (began_by e).store a.journal
+  none_open = still_none (command_at a.said) (λ n. ap (λ (said : List Command). client_op (command_at said n)) none) e.set.name e.set.limits (began_by e).store a.journal
 
   pub idle_first : IsTold tells e → IsIdle name (began_by e) (shows_of tells e a)
   idle_first told = record { none_open = none_open; limits = ap (λ (s : Setting). s.limits) set; named = ap (λ (s : Setting). s.name) set }

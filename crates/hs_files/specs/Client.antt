@@ -1,7 +1,8 @@
 -- A command that asks a store as its only client.
+use Rattle.std.specs.List.{AllByRecursion}
 use Rattle.std.specs.Prelude.{Err, List, None, Ok, Option, Result, Some, [], length, ℕ, ◌≡◌, ◌≤◌, ◌⊎◌}
 use Rattle.hs_asker.specs.Going.{AtEntry}
-use Rattle.hs_asker.specs.Lines.{commands_of, lines_of}
+use Rattle.hs_asker.specs.Lines.{IsOfAsker, command_at, ops_of}
 use Rattle.hs_asker.specs.Shows.{IsTold, began_by}
 use Rattle.hs_asker.specs.Silent.{status_by}
 use Rattle.hs_asking.specs.Shown.{Shown}
@@ -57,17 +58,20 @@ pub record RunsNoLoad (r : Ran) : Type 0 where
   pub time : KeepsTime r.old r.new
   pub counts : CountsStand r.old r.new
 
--- a client's operations from the first to the last one, on a store that was handed over with this naming and shape, under the greatest limits: it began at the store of its lists, each operation that it asked for is a line with
--- a settle behind it, all of which were begun where it goes on, and what it was answered is the journal of the machine's run on these lines up to a moment, which is all that was done on the disks
+-- a client's operations from the first to the last one, on a store that was handed over with this naming and shape, under the greatest limits: it began at the store of its lists, each operation that it asked for is a line, each
+-- other line has peers do what is due, all of them were begun where it goes on, and what it was answered is the journal of the machine's run on these lines up to a moment, which is all that was done on the disks
 pub record AsksAsClient (tells : Type 0) (name : List ℕ → Address) (shape : Shape) (r : Ran) (e : AtEntry) (start now : Shown (IsTold tells e)) : Type 0 where
   pub set : e.set ≡ record { name = name; limits = greatest_limits; shape = shape }
   pub moment : e.moment ≡ r.old.moment
   pub disks : AreHanded r.old e.disks
   pub first : start.asked ≡ []
   pub began : start.began ≡ began_by e
-  pub started : start.commands ≡ commands_of start.asked
-  pub commands : now.commands ≡ commands_of now.asked
-  pub lines : now.ended ≡ None → r.line ≡ length (lines_of now.asked)
+  pub started : start.commands ≡ command_at []
+  pub said : List Command
+  pub askers : AllByRecursion IsOfAsker said
+  pub asked : now.asked ≡ ops_of said
+  pub commands : now.commands ≡ command_at said
+  pub lines : now.ended ≡ None → r.line ≡ length said
   pub journal : r.journal ≡ now.journal
   pub until : ℕ
   pub later : until ≤ r.new.moment

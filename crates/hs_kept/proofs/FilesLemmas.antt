@@ -1,7 +1,6 @@
 -- What a client's file comes to in the words of the plain store.
 use Rattle.std.proofs.Common.{◌≡◌, ◌∙◌, inr, ap, sym, subst, refl, ℕ, List, [], ◌∷◌, map, Option, Some, None, arith}
 use Rattle.hs_asker.specs.Going.{AtEntry}
-use Rattle.hs_asker.specs.Lines.{commands_of}
 use Rattle.hs_asker.specs.Shows.{IsTold, began_by, entry_lists}
 use Rattle.hs_asker.specs.Silent.{status_by}
 use Rattle.hs_asking.proofs.RootLemmas.{enter_retained}
@@ -138,7 +137,7 @@ module _ (laws : Laws) (tells : Type 0) (name : List ℕ → Address) (shape : S
     before_roots : (key : List ℕ) → retained_at (store_now start.began start) key ≡ retained_at (store_before name shape r) key
     before_roots key =
         ap (λ (b : Began). retained_at (run b.limits b.store (events_of start.commands b.name b.limits b.store start.journal)) key) (asks.began ∙ began_is e asks.set asks.disks)
-        ∙ still_roots start.commands (λ n. ap (λ (commands : ℕ → Option Command). client_op (commands n)) asks.started ∙ ap (λ (ops : List Op). client_op (commands_of ops n)) asks.first) name greatest_limits key (store_before name shape r) start.journal
+        ∙ still_roots start.commands (λ n. ap (λ (commands : ℕ → Option Command). client_op (commands n)) asks.started) name greatest_limits key (store_before name shape r) start.journal
 
     -- ---- a file that was stored
 

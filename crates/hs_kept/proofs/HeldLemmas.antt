@@ -6,7 +6,7 @@ use Rattle.hs_asker.proofs.HubLemmas.{on_disks as runs_on_disks}
 use Rattle.hs_asker.proofs.LinesLemmas.{are_asked, command_zero}
 use Rattle.hs_asker.proofs.StopLemmas.{went}
 use Rattle.hs_asker.specs.Going.{AtEntry, Inside, IsAsker, IsGoing, at_of, begun_by}
-use Rattle.hs_asker.specs.Lines.{commands_of, lines_of}
+use Rattle.hs_asker.specs.Lines.{command_at}
 use Rattle.hs_asker.specs.Shows.{began_by, shown_in}
 use Rattle.hs_asker.specs.Silent.{asking_script, silent, status_by}
 use Rattle.hs_asking.specs.Shown.{store_now}
@@ -52,14 +52,14 @@ standing_sessions start c w =
     ∙ ap (λ (s : Store). s.sessions) w.stands.told.left
 
 module _ (laws : Laws) (tells : Type 0) (e : AtEntry) (s : Inside) (h : IsAsker tells e.set.name e s) (told : tells) (entry : IsSoundEntry e) (none : s.ended ≡ None)
-    (on : OnDisks (asking_script e.set s.asked) (ran_at (status_by None) s.line (Some s.cluster) (silent e.moment e.disks) (silent s.now s.disks))) where
+    (on : OnDisks (asking_script e.set s.said) (ran_at (status_by None) s.line (Some s.cluster) (silent e.moment e.disks) (silent s.now s.disks))) where
   abbrev S : Script
-  S = asking_script e.set s.asked
+  S = asking_script e.set s.said
 
   abbrev r : Ran
   r = ran_at (status_by None) s.line (Some s.cluster) (silent e.moment e.disks) (silent s.now s.disks)
 
-  g : IsGoing tells e s.asked (at_of s)
+  g : IsGoing tells e s.said (at_of s)
   g = h.going none
 
   abbrev b : Begun
@@ -71,10 +71,10 @@ module _ (laws : Laws) (tells : Type 0) (e : AtEntry) (s : Inside) (h : IsAsker 
   -- ---- its run
 
   its_run : Went S r story
-  its_run = went tells e g.found g.first g.opening h.shape h.count (commands_of s.asked) (lines_of s.asked) g.lines (at_of s) None tt h.left (command_zero (lines_of s.asked)) (are_asked (lines_of s.asked)) g.done g.shows
+  its_run = went tells e g.found g.first g.opening h.shape h.count (command_at s.said) s.said g.lines (at_of s) None tt h.left (command_zero s.said) (are_asked s.said) g.done g.shows
 
   its_disks : RunsOnDisks tells S r story
-  its_disks = runs_on_disks tells e g.found g.first g.opening (commands_of s.asked) None s.line s.now s.cluster s.cluster s.disks g.lines g.shows.shown g.shows.since
+  its_disks = runs_on_disks tells e g.found g.first g.opening (command_at s.said) None s.line s.now s.cluster s.cluster s.disks g.lines g.shows.shown g.shows.since
 
   shown : IsShown S r story
   shown = shown_of tells S r story on its_disks.span told its_disks.before its_disks.now its_disks.old.stands its_disks.new.stands its_disks.shown its_run (read_as tells S r story its_disks told)

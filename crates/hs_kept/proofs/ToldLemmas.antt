@@ -36,15 +36,15 @@ module _ (laws : Laws) (tells : Type 0) (e : AtEntry) (told : tells) (one : e.se
   -- of any run of an asker
   module _ (s : Inside) (h : IsAsker tells e.set.name e s) where
     abbrev S : Script
-    S = asking_script e.set s.asked
+    S = asking_script e.set s.said
 
-    cluster : IsOfCluster tells (asking_script e.set s.asked) (ran_at (status_by s.ended) s.line (Some s.cluster) (silent e.moment e.disks) (silent s.now s.disks))
+    cluster : IsOfCluster tells (asking_script e.set s.said) (ran_at (status_by s.ended) s.line (Some s.cluster) (silent e.moment e.disks) (silent s.now s.disks))
     cluster = ran_so tells e.set.name e s h
 
-    run : IsToldRun (asking_script e.set s.asked) (ran_at (status_by s.ended) s.line (Some s.cluster) (silent e.moment e.disks) (silent s.now s.disks))
+    run : IsToldRun (asking_script e.set s.said) (ran_at (status_by s.ended) s.line (Some s.cluster) (silent e.moment e.disks) (silent s.now s.disks))
     run = told_run tells S (ran_at (status_by s.ended) s.line (Some s.cluster) (silent e.moment e.disks) (silent s.now s.disks)) told one names cluster
 
-    answers : AnswersFrom (asking_script e.set s.asked) (began_by e).store s.cluster.core.journal
+    answers : AnswersFrom (asking_script e.set s.said) (began_by e).store s.cluster.core.journal
     answers = answers_from laws S (ran_at (status_by s.ended) s.line (Some s.cluster) (silent e.moment e.disks) (silent s.now s.disks)) run e.disks refl entry.sound
 
     lists_same : taken_lists e.set.shape (entry_lists e) ≡ or_blank (entry_lists e)
@@ -70,9 +70,9 @@ module _ (laws : Laws) (tells : Type 0) (e : AtEntry) (told : tells) (one : e.se
 
     held : s.ended ≡ None → (session : List ℕ) (handle : ℕ) → held_at (seat_of session s.cluster.core.sessions) handle ≡ store_held (store_now (began_by e) (shown_in e s)) session handle
     held none =
-        let ran : IsOfCluster tells (asking_script e.set s.asked) (ran_at (status_by None) s.line (Some s.cluster) (silent e.moment e.disks) (silent s.now s.disks)) =
-        subst (λ (o : Option CoreFault). IsOfCluster tells (asking_script e.set s.asked) (ran_at (status_by o) s.line (Some s.cluster) (silent e.moment e.disks) (silent s.now s.disks))) none cluster in
-        let on : OnDisks (asking_script e.set s.asked) (ran_at (status_by None) s.line (Some s.cluster) (silent e.moment e.disks) (silent s.now s.disks)) =
+        let ran : IsOfCluster tells (asking_script e.set s.said) (ran_at (status_by None) s.line (Some s.cluster) (silent e.moment e.disks) (silent s.now s.disks)) =
+        subst (λ (o : Option CoreFault). IsOfCluster tells (asking_script e.set s.said) (ran_at (status_by o) s.line (Some s.cluster) (silent e.moment e.disks) (silent s.now s.disks))) none cluster in
+        let on : OnDisks (asking_script e.set s.said) (ran_at (status_by None) s.line (Some s.cluster) (silent e.moment e.disks) (silent s.now s.disks)) =
         on_disks tells S (ran_at (status_by None) s.line (Some s.cluster) (silent e.moment e.disks) (silent s.now s.disks)) told one names ran in
         held_there laws tells e s h told entry none on
 

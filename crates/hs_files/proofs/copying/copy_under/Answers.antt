@@ -27,10 +27,10 @@ use Rattle.hs_files.proofs.copying.copy_under.Goals as goal
 
 -- no session is open before the first operation of either
 pub copy_by-copied-requires-clause-idle : goal.copy_by-copied-requires-clause-idle
-copy_by-copied-requires-clause-idle g c = idle_first g.D.Disk.tells (g.A.Addresser.name c.args.naming.now) c.args.shape g.H.Handed.entry (ap (λ (e : AtEntry). e.set) c.requires.entry) c.in-Ok-opened.asker c.in-Ok-opened.ensures.asked
+copy_by-copied-requires-clause-idle g c = idle_first g.D.Disk.tells (g.A.Addresser.name c.args.naming.now) c.args.shape g.H.Handed.entry (ap (λ (e : AtEntry). e.set) c.requires.entry) c.in-Ok-opened.asker c.in-Ok-opened.ensures.said
 
 pub copy_by-copied-requires-clause-open : goal.copy_by-copied-requires-clause-open
-copy_by-copied-requires-clause-open g c = idle_first g.D.Disk.tells (g.A.Addresser.name c.args.naming.now) c.args.second g.G.Handed.entry (ap (λ (e : AtEntry). e.set) c.requires.behind) c.in-Ok-opened-2.asker c.in-Ok-opened-2.ensures.asked
+copy_by-copied-requires-clause-open g c = idle_first g.D.Disk.tells (g.A.Addresser.name c.args.naming.now) c.args.second g.G.Handed.entry (ap (λ (e : AtEntry). e.set) c.requires.behind) c.in-Ok-opened-2.asker c.in-Ok-opened-2.ensures.said
 
 -- memory was wanting before a disk was taken
 pub returns-in_default-clause-copies : goal.returns-in_default-clause-copies
@@ -134,7 +134,7 @@ returns-in-Err-opened-clause-copies g c = λ source.
     let start = shows_of tells entry c.in-Ok-opened.asker in
     let asks : (a : AsksAsClient tells name c.args.shape one entry start start) × (a.until ≡ end.watch) =
     asks_of f h (λ x. refl) (λ x. refl) tells name c.args.shape entry before (take n xs) c.requires.entry p sink sink source source c.in-Ok-opened.asker c.in-Ok-opened.asker end.ended end.line end.journal.entries end.refused end.course end.watch now ys
-    c.in-Ok-opened.ensures.asked c.into_told.ensures.ended c.into_told.ensures.journal (let mid = le-max_right before end.watch in let all = le-max_left (max before end.watch) left.watch in omega (arith, mid, all)) c.into_told.ensures.lines c.into_told.ensures.ran
+    c.in-Ok-opened.ensures.said c.into_told.ensures.ended c.into_told.ensures.journal (let mid = le-max_right before end.watch in let all = le-max_left (max before end.watch) left.watch in omega (arith, mid, all)) c.into_told.ensures.lines c.into_told.ensures.askers c.into_told.ensures.ran
     (record { line = refl; journal = refl; kept = refl; stored = refl; refused = refl; course = refl }) in
     let ran : (commands : ℕ → Option Command) × IsOfCluster tells (client_script name c.args.second commands) (beneath (ran_of o (handed before (map h (drop n xs)) sink source) (handed left.watch (map h zs) sink source)) left.watch (status_of (Err (of_cluster left.fault)) 0)) =
     closed_ran f h (λ x. refl) (λ x. refl) tells name c.args.second g.G.Handed.entry before (drop n xs) c.requires.behind o sink sink source source (status_of (Err (of_cluster left.fault)) 0) left.watch zs c.in-Err-opened.ensures.closed told in
@@ -197,11 +197,11 @@ returns-clause-copies g c = λ source.
     let v = shows_of tells entry' c.copy_by-copied.new.into in
     let asks : (a : AsksAsClient tells name c.args.shape one entry s t) × (a.until ≡ end.watch) =
     asks_of f h (λ x. refl) (λ x. refl) tells name c.args.shape entry before (take n xs) c.requires.entry p was sink source source c.in-Ok-opened.asker c.copy_by-copied.new.from end.ended end.line end.journal.entries end.refused end.course end.watch now ys
-    c.in-Ok-opened.ensures.asked c.into_told-2.ensures.ended c.into_told-2.ensures.journal (omega (arith, first_done, later)) c.into_told-2.ensures.lines c.into_told-2.ensures.ran
+    c.in-Ok-opened.ensures.said c.into_told-2.ensures.ended c.into_told-2.ensures.journal (omega (arith, first_done, later)) c.into_told-2.ensures.lines c.into_told-2.ensures.askers c.into_told-2.ensures.ran
     (record { line = refl; journal = refl; kept = refl; stored = refl; refused = refl; course = refl }) in
     let asks' : (a : AsksAsClient tells name c.args.second (ran_of o (handed before (map h (drop n xs)) was source) (handed now (map h zs) sink source)) entry' u v) × (a.until ≡ end'.watch) =
     asks_of f h (λ x. refl) (λ x. refl) tells name c.args.second entry' before (drop n xs) c.requires.behind o was sink source source c.in-Ok-opened-2.asker c.copy_by-copied.new.into end'.ended end'.line end'.journal.entries end'.refused end'.course end'.watch now zs
-    c.in-Ok-opened-2.ensures.asked c.into_told-3.ensures.ended c.into_told-3.ensures.journal (omega (arith, second_done, later)) c.into_told-3.ensures.lines c.into_told-3.ensures.ran told in
+    c.in-Ok-opened-2.ensures.said c.into_told-3.ensures.ended c.into_told-3.ensures.journal (omega (arith, second_done, later)) c.into_told-3.ensures.lines c.into_told-3.ensures.askers c.into_told-3.ensures.ran told in
     let copies : CopiesRoot tells name shapes c.args.key.now c.args.every (r (ys ++ zs)) =
     by_result tells name shapes c.args.key.now c.args.every (r (ys ++ zs)) one (in_first_of h c.args.shape was sink source source before now xs ys zs front o p) entry s t asks.0 (record { kept = told.kept; stored = told.stored }) (refl, refl) entry' u v
     (subst (λ (x : Ran). AsksAsClient tells name c.args.second x entry' u v) (second_ran h c.args.shape was sink source source before now xs ys zs front o) asks'.0)

@@ -21,7 +21,7 @@ use Rattle.hs_files.proofs.fetching.fetch_under.Goals as goal
 
 -- no session is open before the first operation
 pub fetch_by-fetched-requires-clause-alone : goal.fetch_by-fetched-requires-clause-alone
-fetch_by-fetched-requires-clause-alone g c = alone_first g.D.Disk.tells (g.A.Addresser.name c.args.naming.now) c.args.shape g.H.Handed.entry (ap (λ (e : AtEntry). e.set) c.requires.entry) c.in-Ok.asker c.in-Ok.ensures.asked
+fetch_by-fetched-requires-clause-alone g c = alone_first g.D.Disk.tells (g.A.Addresser.name c.args.naming.now) c.args.shape g.H.Handed.entry (ap (λ (e : AtEntry). e.set) c.requires.entry) c.in-Ok.asker c.in-Ok.ensures.said
 
 -- no core was opened
 pub returns-in-Err-clause-fetches : goal.returns-in-Err-clause-fetches
@@ -86,7 +86,7 @@ returns-clause-fetches g c = λ source.
     subst (λ (bytes : List ℕ). OnOk c.fetch_by-fetched.result (HasFetched c.args.key.now start now bytes c.fetch_by-fetched.new.file.items)) c.new-file.ensures.items c.fetch_by-fetched.ensures.fetched in
     let asks : (a : AsksAsClient tells name c.args.shape (ran_of o old (at end.disks.items)) entry start now) × (a.until ≡ end.watch) =
     asks_of f h (λ x. refl) (λ x. refl) tells name c.args.shape entry c.args.watch.now xs c.requires.entry o was sink source source c.in-Ok.asker c.fetch_by-fetched.new.asker end.ended end.line end.journal.entries end.refused end.course end.watch put.new.watch end.disks.items
-    c.in-Ok.ensures.asked c.into_told.ensures.ended c.into_told.ensures.journal later c.into_told.ensures.lines c.into_told.ensures.ran told in
+    c.in-Ok.ensures.said c.into_told.ensures.ended c.into_told.ensures.journal later c.into_told.ensures.lines c.into_told.ensures.askers c.into_told.ensures.ran told in
     let fetches : FetchesFile tells name c.args.shape c.args.key.now (ran_of o old (at end.disks.items)) =
     by_result tells name c.args.shape c.args.key.now (ran_of o old (at end.disks.items)) entry start now asks.0 (refl, refl) c.fetch_by-fetched.result c.fetch_by-fetched.new.file.items
     fetched c.fetch_by-fetched.ensures.halts

@@ -16,7 +16,7 @@ use Rattle.hs_files.proofs.storing.store_under.Goals as goal
 
 -- no session is open before the first operation
 pub store_by-stored-requires-clause-idle : goal.store_by-stored-requires-clause-idle
-store_by-stored-requires-clause-idle g c = idle_first g.D.Disk.tells (g.A.Addresser.name c.args.naming.now) c.args.shape g.H.Handed.entry (ap (λ (e : AtEntry). e.set) c.requires.entry) c.in-Ok.asker c.in-Ok.ensures.asked
+store_by-stored-requires-clause-idle g c = idle_first g.D.Disk.tells (g.A.Addresser.name c.args.naming.now) c.args.shape g.H.Handed.entry (ap (λ (e : AtEntry). e.set) c.requires.entry) c.in-Ok.asker c.in-Ok.ensures.said
 
 -- no core was opened
 pub returns-in-Err-clause-stores : goal.returns-in-Err-clause-stores
@@ -73,7 +73,7 @@ returns-clause-stores g c = λ sink.
     let now = shows_of tells entry c.store_by-stored.new.asker in
     let asks : (a : AsksAsClient tells name c.args.shape (ran_of o old (at end.watch end.disks.items)) entry start now) × (a.until ≡ end.watch) =
     asks_of f h (λ x. refl) (λ x. refl) tells name c.args.shape entry c.args.watch.now xs c.requires.entry o sink sink was source c.in-Ok.asker c.store_by-stored.new.asker end.ended end.line end.journal.entries end.refused end.course end.watch end.watch end.disks.items
-    c.in-Ok.ensures.asked c.into_told.ensures.ended c.into_told.ensures.journal (omega arith) c.into_told.ensures.lines c.into_told.ensures.ran told in
+    c.in-Ok.ensures.said c.into_told.ensures.ended c.into_told.ensures.journal (omega arith) c.into_told.ensures.lines c.into_told.ensures.askers c.into_told.ensures.ran told in
     let stores : StoresFile tells name c.args.shape c.args.key.now (ran_of o old (at end.watch end.disks.items)) =
     by_result tells name c.args.shape c.args.key.now (ran_of o old (at end.watch end.disks.items)) entry start now asks.0 (refl, refl) c.store_by-stored.ensures.later c.store_by-stored.result
     (c.outcome_of.ensures.status ∙ c.store_status-status.ensures) c.store_by-stored.ensures.stored c.store_by-stored.ensures.halts in

@@ -56,17 +56,17 @@ invariant_of-result g c =
     elim c.match-done.branch [
       | in-Err-done w ↦
           let end : c.match-done.ended ≡ Some (core_of w.in-Err-done.fault) = w.ended-is ∙ ap (λ (x : CoreFault). Some x) w.core_fault.ensures in
-          let none : map (λ said. said.value) c.match-done.asked.items ≡ [] = ap (λ v. map (λ said. said.value) v.items) w.asked-is ∙ ap (λ xs. map (λ said. said.value) xs) c.new-asked.ensures.items in (
+          let none : map (λ said. said.value) c.match-done.said.items ≡ [] = ap (λ v. map (λ said. said.value) v.items) w.said-is ∙ ap (λ xs. map (λ said. said.value) xs) c.new-said.ensures.items in (
             λ is. absurd (not_none (core_of w.in-Err-done.fault) (sym end ∙ is)),
-            asker_as g.D.Disk.tells set.name g.H.Handed.entry (record { set = set; moment = span.before; disks = span.old }) (map (λ said. said.value) c.match-done.asked.items) span.now running span.new _ c.match-done.ended (Some (core_of w.in-Err-done.fault))
+            asker_as g.D.Disk.tells set.name g.H.Handed.entry (record { set = set; moment = span.before; disks = span.old }) (map (λ said. said.value) c.match-done.said.items) span.now running span.new _ c.match-done.ended (Some (core_of w.in-Err-done.fault))
                 entry none (ap (λ ds. map f ds) back) end
                 (shut_asker g.D.Disk.tells set span running since c.requires.shape count kept w.in-Err-done.fault (subst (λ d. Opens g.D.Disk.tells set span running d) w.in-Err-done.is c.in-Ok.ensures.opens)),
           )
       | in-Ok-done w ↦
           let fine : is_ok c.in-Ok.opened.done ≡ true = ap (λ r. is_ok r) w.in-Ok-done.is in
-          let none : map (λ said. said.value) c.match-done.asked.items ≡ [] = ap (λ v. map (λ said. said.value) v.items) w.asked-is ∙ ap (λ xs. map (λ said. said.value) xs) w.first_fault-ended.ensures.items in (
-            λ is. subst (λ v. vec_len v < vec_capacity v) (sym w.asked-is) (w.first_fault-ended.ensures.room (sym w.ended-is ∙ is)),
-            asker_as g.D.Disk.tells set.name g.H.Handed.entry (record { set = set; moment = span.before; disks = span.old }) (map (λ said. said.value) c.match-done.asked.items) span.now running span.new _ c.match-done.ended w.first_fault-ended.result
+          let none : map (λ said. said.value) c.match-done.said.items ≡ [] = ap (λ v. map (λ said. said.value) v.items) w.said-is ∙ ap (λ xs. map (λ said. said.value) xs) w.first_fault-ended.ensures.items in (
+            λ is. subst (λ v. vec_len v < vec_capacity v) (sym w.said-is) (w.first_fault-ended.ensures.room (sym w.ended-is ∙ is)),
+            asker_as g.D.Disk.tells set.name g.H.Handed.entry (record { set = set; moment = span.before; disks = span.old }) (map (λ said. said.value) c.match-done.said.items) span.now running span.new _ c.match-done.ended w.first_fault-ended.result
                 entry none (ap (λ ds. map f ds) back) w.ended-is
                 (open_asker g.D.Disk.tells set span running since c.requires.shape count kept c.in-Ok.opened.done c.in-Ok.ensures.opens fine c.in-Ok.ensures.shape (on_fine _ c.in-Ok.opened.done fine c.in-Ok.ensures.ready)
                 w.first_fault-ended.result w.first_fault-ended.ensures.lines w.first_fault-ended.ensures.only),
