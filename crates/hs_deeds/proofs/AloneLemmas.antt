@@ -48,7 +48,7 @@ brings seats op.Delete its = tt
 brings seats op.Stat its = tt
 
 -- an event of a book is the next one
-comes_next : (e : Event) (c : Core) → IsBookEvent c e → ComesNext e c
+pub comes_next : (e : Event) (c : Core) → IsBookEvent c e → ComesNext e c
 comes_next (event.Line line o) c may = record { next = let is : line ≡ c.progress.last_line + 1 = may.next in omega (arith, is); given = brings c.sessions o may.address }
 comes_next (event.Report peer d) c may = record { next = tt; given = tt }
 comes_next (event.Deliver line number) c may = record { next = tt; given = tt }

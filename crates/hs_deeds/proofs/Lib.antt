@@ -21,3 +21,5 @@ pub mod OpensLemmas
 pub mod HistoryLemmas
 pub mod BookLemmas
 pub mod AloneLemmas
+pub mod TakenLemmas
+mod Examples

@@ -4,7 +4,10 @@ ghost use Rattle.hs_answered.specs.Standing.{store_with};
 ghost use Rattle.hs_any_events.specs.Events.{ComesNext, OpensSoundly, any_lines};
 ghost use Rattle.hs_book.specs.Book.{Book};
 ghost use Rattle.hs_book.specs.History.{History};
+ghost use Rattle.hs_copies.specs.Lists.{Item};
+ghost use Rattle.hs_core_words.specs.Records.{HasRecordRoom};
 ghost use Rattle.hs_deeds.specs.History.{AreClients, HasTold};
+ghost use Rattle.hs_entry.specs.declared.entry.Entry.{Entry};
 ghost use Rattle.hs_events.specs.Course.{steps};
 ghost use Rattle.hs_events.specs.Due.{Events};
 ghost use Rattle.hs_events.specs.Found.{Found, first_core, opens_with};
@@ -12,6 +15,7 @@ ghost use Rattle.hs_fold.specs.Runs.Facts.{Catalogue as Folded};
 ghost use Rattle.hs_fold.specs.Shards.Setting.{Setting};
 ghost use Rattle.hs_journal.specs.Deeds.{as_deed};
 ghost use Rattle.hs_journal.specs.Events.{client_op};
+ghost use Rattle.hs_known_copies.specs.Known.{AreTakenLogs};
 ghost use Rattle.hs_model.specs.declared.command.Command.{Command};
 ghost use Rattle.hs_model.specs.Deeds.{AreDeeds};
 ghost use Rattle.hs_model.specs.Hollow.{hollow};
@@ -40,8 +44,10 @@ use hs_standing::a_run_goes_on;
 /// lawful history; each line that has a command is a client's, and comes above those before, at a moment that
 /// is not before the last one; a write brings an address where it has a block; and as long as the core goes
 /// on it has its seats, what is known of copies is within their lists, and it has room for root records. So
-/// the journal of a book that was opened with such a core is one of deeds (`book`). With one copy a shard
-/// nothing more is asked than that its core opened over sound lists (`alone`).
+/// the journal of a book that was opened with such a core is one of deeds (`book`). Where it opened over logs
+/// that were taken, with any number of copies, nothing is asked of copies, nor of what comes: it has room for
+/// root records as it opens, and the book sees to the rest (`copies`). With one copy a shard nothing more is
+/// asked than that its core opened over sound lists (`alone`).
 pub fn a_history_is_its_deeds()
     ensures run { (set : Setting) (found : Found) (commands : ℕ → Option Command)
         (events : Events) (cs : List Folded)
@@ -56,6 +62,12 @@ pub fn a_history_is_its_deeds()
         → GivesAddresses set.name
         → MayOpen (any_lines set) set.shape (opens_with set found) found.opened cs
         → AllComeOn ComesNext (first_core set found) history.events →
+        AreDeeds set.limits (hollow (store_with cs [])) [] (map as_deed book.core.journal) }
+    ensures copies { (set : Setting) (found : Found) (cs : List Folded)
+        (logs : ℕ → List (Item Entry)) (book : Book) → GivesAddresses set.name
+        → MayOpen (any_lines set) set.shape (opens_with set found) found.opened cs
+        → AreTakenLogs set.shape (opens_with set found) logs
+        → HasRecordRoom (first_core set found) → History (first_core set found) book →
         AreDeeds set.limits (hollow (store_with cs [])) [] (map as_deed book.core.journal) }
     ensures alone { (set : Setting) (found : Found) (book : Book)
         → OpensSoundly set found → History (first_core set found) book →
