@@ -25,9 +25,11 @@ use Rattle.hs_core_words.specs.Looking.{oldest_message, leads_of}
 use Rattle.hs_core_words.specs.State.{Core}
 use Rattle.hs_core_words.specs.Step.{begin_event, do_event, keep_entries, line_of, refuse_entries, run_event, step, is_first_line}
 use Rattle.hs_deeds.proofs.GivenDeedLemmas.{ByPointers}
-use Rattle.hs_deeds.proofs.HistoryLemmas.{AllKeepTurn, KeepsTurn, history_told, told_deeds}
+use Rattle.hs_deeds.proofs.HistoryLemmas.{AllKeepTurn, KeepsTurn, history_told, history_turn, told_deeds, told_journal}
 use Rattle.hs_deeds.proofs.OpensLemmas.{HasNoLine, opens_lines}
-use Rattle.hs_deeds.specs.History.{AreClients}
+use Rattle.hs_deeds.specs.Bare.{bare_store}
+use Rattle.hs_deeds.specs.History.{AreClients, HasTold}
+use Rattle.hs_deeds.specs.Told.{store_after}
 use Rattle.hs_desk.specs.declared.fault.CoreFault.{CoreFault}
 use Rattle.hs_events.proofs.KeepLemmas.{Leaves, ReportLeaves, keeps_do, with_line}
 use Rattle.hs_events.specs.Course.{steps}
@@ -35,6 +37,7 @@ use Rattle.hs_events.specs.Due.{Events}
 use Rattle.hs_events.specs.Found.{Found, first_core, opens_with}
 use Rattle.hs_fold.specs.Runs.Facts.{Catalogue as Folded}
 use Rattle.hs_fold.specs.Shards.Setting.{Setting}
+use Rattle.hs_journal.specs.declared.entry.JournalEntry.{JournalEntry}
 use Rattle.hs_journal.specs.Deeds.{as_deed}
 use Rattle.hs_journal.specs.Events.{client_op}
 use Rattle.hs_model.specs.declared.command.Command.{Command}
@@ -48,6 +51,7 @@ use Rattle.hs_post.specs.Pool.{message_at, restart_numbers, is_for}
 use Rattle.hs_standing.specs.Copies.{AllComeOn}
 use Rattle.hs_standing.specs.Held.{GivesAddresses}
 use Rattle.hs_standing.specs.Opens.{MayOpen}
+use Rattle.hs_standing.specs.Telling.{told_so_far}
 use Rattle.hs_told.proofs.DuringLemmas.{During, stirs}
 use Rattle.hs_told.proofs.OrderLemmas.{ended, same_refusal, step_turn}
 use Rattle.hs_told.proofs.StirLemmas.{stays_event, part_still}
@@ -275,14 +279,34 @@ module _ (commands : ℕ → Option Command) (none : client_op (commands 0) ≡ 
 
 -- ---- the book
 
-pub book_deeds : (below : LawsBelow) → ByPointers → (set : Setting) (found : Found) (cs : List Folded) → GivesAddresses set.name → MayOpen (any_lines set) set.shape (opens_with set found) found.opened cs
-    → (book : Book) (history : History (first_core set found) book) → AllComeOn ComesNext (first_core set found) history.events → AreDeeds set.limits (hollow (store_with cs [])) [] (map as_deed book.core.journal)
-book_deeds below shown set found cs names may book history come =
-    subst (λ (c : Core). AreDeeds set.limits (hollow (store_with cs [])) [] (map as_deed c.journal)) (sym history.led)
-    (told_deeds set.limits (hollow (store_with cs [])) (steps (first_core set found) history.events)
-    (history_told below shown set found cs names may (book_commands history.events) refl history.events (book_clients history.events) come
-    (book_turns (book_commands history.events) refl history.events (first_core set found) history.may (lines.event_line ∙ sym lines.last_line)
-    (λ n up. ap (λ (b : Bool). client_op (cond b None (asked_at history.events n))) (ne_eqb n 0 (λ zero. absurd (omega (arith, up, zero))))))))
-  where
-    lines : HasNoLine (first_core set found)
-    lines = opens_lines set.shape set.limits (opens_with set found) found.opened
+module _ (below : LawsBelow) (shown : ByPointers) (set : Setting) (found : Found) (cs : List Folded) (names : GivesAddresses set.name) (may : MayOpen (any_lines set) set.shape (opens_with set found) found.opened cs) (book : Book)
+    (history : History (first_core set found) book) (come : AllComeOn ComesNext (first_core set found) history.events) where
+  abbrev commands : ℕ → Option Command
+  commands = book_commands history.events
+
+  abbrev last : Core
+  last = steps (first_core set found) history.events
+
+  lines : HasNoLine (first_core set found)
+  lines = opens_lines set.shape set.limits (opens_with set found) found.opened
+
+  turns : AllKeepTurn (book_commands history.events) (first_core set found) history.events
+  turns =
+      book_turns commands refl history.events (first_core set found) history.may (lines.event_line ∙ sym lines.last_line)
+      (λ n up. ap (λ (b : Bool). client_op (cond b None (asked_at history.events n))) (ne_eqb n 0 (λ zero. absurd (omega (arith, up, zero)))))
+
+  told : HasTold set.limits (hollow (store_with cs [])) (steps (first_core set found) history.events)
+  told = history_told below shown set found cs names may commands refl history.events (book_clients history.events) come turns
+
+  pub book_deeds : AreDeeds set.limits (hollow (store_with cs [])) [] (map as_deed book.core.journal)
+  book_deeds =
+      subst (λ (c : Core). AreDeeds set.limits (hollow (store_with cs [])) [] (map as_deed c.journal)) (sym history.led)
+      (told_deeds set.limits (hollow (store_with cs [])) last told)
+
+  -- as long as it goes on its catalogues and sessions are what they leave
+  pub book_left : book.core.ended ≡ None → store_after (hollow (store_with cs [])) (map as_deed book.core.journal) ≡ bare_store book.core
+  book_left goes =
+      let going : last.ended ≡ None = sym (ap (λ (c : Core). c.ended) history.led) ∙ goes in
+      let journal : told_so_far last ≡ last.journal = told_journal commands last (history_turn below shown set found cs names may commands refl history.events come turns) going in
+      subst (λ (c : Core). store_after (hollow (store_with cs [])) (map as_deed c.journal) ≡ bare_store c) (sym history.led)
+      (ap (λ (es : List JournalEntry). store_after (hollow (store_with cs [])) (map as_deed es)) (sym journal) ∙ told.left)

@@ -1,5 +1,6 @@
 -- What a core tells from its opening on is deeds, whatever events come.
 use Rattle.std.proofs.Common.{◌≡◌, ◌∙◌, sym, ap, subst, ℕ, ◌++◌, List, [], ◌∷◌, map, Option, Some, None, refl, arith, append_assoc}
+use Rattle.std.proofs.lemmas.List.{append-nil}
 use Rattle.std.specs.Option.{option_map}
 use Rattle.hs_answered.specs.Standing.{store_with}
 use Rattle.hs_any_events.proofs.AlongLemmas.{LawsBelow, code_for}
@@ -147,6 +148,11 @@ told_deeds limits start c its =
     deeds_front limits start [] (map as_deed c.journal) (map as_deed (c.refused ++ c.entries))
     (subst (λ (es : List DeedEntry). AreDeeds limits start [] es) (ap (λ (js : List JournalEntry). map as_deed js) (append_assoc c.journal c.refused c.entries) ∙ map_join as_deed c.journal (c.refused ++ c.entries)) its.deeds)
 
+-- where it goes on, all that was told is its journal
+pub told_journal : (commands : ℕ → Option Command) (c : Core) → IsInTurn commands c → c.ended ≡ None → told_so_far c ≡ c.journal
+told_journal commands c turn goes =
+    ap (λ (es : List JournalEntry). (c.journal ++ c.refused) ++ es) turn.told ∙ append-nil (c.journal ++ c.refused) ∙ ap (λ (es : List JournalEntry). c.journal ++ es) (turn.going goes) ∙ append-nil c.journal
+
 -- ---- from opening on
 
 module _ (below : LawsBelow) (shown : ByPointers) (set : Setting) (found : Found) (cs : List Folded) (names : GivesAddresses set.name) (may : MayOpen (any_lines set) set.shape (opens_with set found) found.opened cs)
@@ -181,13 +187,14 @@ module _ (below : LawsBelow) (shown : ByPointers) (set : Setting) (found : Found
     tells = record { its = stands_coded start_of opens its_of.0 its_of.1 valid_of idle_of es; points = telling.points; told = λ clean. telling.told };
   }
 
+  history_goes : (es : Events) → AllComeOn ComesNext (first_core set found) es → AllKeepTurn commands (first_core set found) es
+      → GoesOnTelling (code_of es) set.limits (bare_store (new_core set.shape set.limits (opens_with set found) found.opened)) commands (steps (first_core set found) es)
+  history_goes es come keep = all_tell below shown (code_of es) (coded_gives (code_of es) names (table_whole es)) set.limits (bare_store new) commands es opens come keep (λ a m. m) (first_tells es)
+
+  pub history_turn : (es : Events) → AllComeOn ComesNext (first_core set found) es → AllKeepTurn commands (first_core set found) es → IsInTurn commands (steps (first_core set found) es)
+  history_turn es come keep = (history_goes es come keep).turn
+
   pub history_told : (es : Events) → AreClients commands → AllComeOn ComesNext (first_core set found) es → AllKeepTurn commands (first_core set found) es
       → HasTold set.limits (hollow (store_with cs [])) (steps (first_core set found) es)
   history_told es clients come keep =
-      subst (λ (s : Store). HasTold set.limits s last) (bare_is new cs may.lawful.folded) (has_told (code_of es) set.limits (bare_store new) commands last clients goes)
-    where
-      last : Core
-      last = steps opens es
-
-      goes : GoesOnTelling (code_of es) set.limits (bare_store new) commands last
-      goes = all_tell below shown (code_of es) (coded_gives (code_of es) names (table_whole es)) set.limits (bare_store new) commands es opens come keep (λ a m. m) (first_tells es)
+      subst (λ (s : Store). HasTold set.limits s (steps opens es)) (bare_is new cs may.lawful.folded) (has_told (code_of es) set.limits (bare_store new) commands (steps opens es) clients (history_goes es come keep))

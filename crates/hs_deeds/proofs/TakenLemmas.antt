@@ -11,8 +11,10 @@ use Rattle.hs_core_words.specs.Records.{HasRecordRoom}
 use Rattle.hs_core_words.specs.State.{Core}
 use Rattle.hs_core_words.specs.Step.{step}
 use Rattle.hs_deeds.proofs.AloneLemmas.{comes_next}
-use Rattle.hs_deeds.proofs.BookLemmas.{book_deeds}
+use Rattle.hs_deeds.proofs.BookLemmas.{book_deeds, book_left}
 use Rattle.hs_deeds.proofs.GivenDeedLemmas.{ByPointers}
+use Rattle.hs_deeds.specs.Bare.{bare_store}
+use Rattle.hs_deeds.specs.Told.{store_after}
 use Rattle.hs_desk.specs.declared.fault.CoreFault.{CoreFault}
 use Rattle.hs_entry.specs.declared.entry.Entry.{Entry}
 use Rattle.hs_events.specs.Due.{Events}
@@ -24,6 +26,7 @@ use Rattle.hs_known_copies.proofs.KnownLemmas.{AllMayCome, comes_on, opens_along
 use Rattle.hs_known_copies.specs.Known.{AreTakenLogs}
 use Rattle.hs_model.specs.Deeds.{AreDeeds}
 use Rattle.hs_model.specs.Hollow.{hollow}
+use Rattle.hs_standing.specs.Copies.{AllComeOn}
 use Rattle.hs_standing.specs.Held.{GivesAddresses}
 use Rattle.hs_standing.specs.Opens.{MayOpen}
 
@@ -41,9 +44,15 @@ book_comes (e ∷ es) c few may = (λ going. (few, comes_next e.0 c may.0.may), 
     by later None going = later going
     by later (Some fault) over = none_may es (step e.0 e.1 c) fault over may.1
 
-pub taken_deeds : LawsBelow → ByPointers → (set : Setting) (found : Found) (cs : List Folded) (logs : ℕ → List (Item Entry)) → GivesAddresses set.name → MayOpen (any_lines set) set.shape (opens_with set found) found.opened cs
-    → AreTakenLogs set.shape (opens_with set found) logs → HasRecordRoom (first_core set found) → (book : Book) → History (first_core set found) book → AreDeeds set.limits (hollow (store_with cs [])) [] (map as_deed book.core.journal)
-taken_deeds below shown set found cs logs names may taken few book history =
-    book_deeds below shown set found cs names may book history
-    (comes_on ComesNext (first_core set found) history.events (opens_along set.shape set.limits (opens_with set found) found.opened logs history.events taken)
-    (book_comes history.events (first_core set found) few history.may))
+module _ (below : LawsBelow) (shown : ByPointers) (set : Setting) (found : Found) (cs : List Folded) (logs : ℕ → List (Item Entry)) (names : GivesAddresses set.name) (may : MayOpen (any_lines set) set.shape (opens_with set found) found.opened cs)
+    (taken : AreTakenLogs set.shape (opens_with set found) logs) (few : HasRecordRoom (first_core set found)) (book : Book) (history : History (first_core set found) book) where
+  come : AllComeOn ComesNext (first_core set found) history.events
+  come =
+      comes_on ComesNext (first_core set found) history.events (opens_along set.shape set.limits (opens_with set found) found.opened logs history.events taken)
+      (book_comes history.events (first_core set found) few history.may)
+
+  pub taken_deeds : AreDeeds set.limits (hollow (store_with cs [])) [] (map as_deed book.core.journal)
+  taken_deeds = book_deeds below shown set found cs names may book history come
+
+  pub taken_left : book.core.ended ≡ None → store_after (hollow (store_with cs [])) (map as_deed book.core.journal) ≡ bare_store book.core
+  taken_left goes = book_left below shown set found cs names may book history come goes

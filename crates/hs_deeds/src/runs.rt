@@ -6,8 +6,10 @@ ghost use Rattle.hs_book.specs.Book.{Book};
 ghost use Rattle.hs_book.specs.History.{History};
 ghost use Rattle.hs_copies.specs.Lists.{Item};
 ghost use Rattle.hs_core_words.specs.Records.{HasRecordRoom};
+ghost use Rattle.hs_deeds.specs.Bare.{bare_store};
 ghost use Rattle.hs_deeds.specs.History.{AreClients, HasTold};
 ghost use Rattle.hs_entry.specs.declared.entry.Entry.{Entry};
+ghost use Rattle.hs_deeds.specs.Told.{store_after};
 ghost use Rattle.hs_events.specs.Course.{steps};
 ghost use Rattle.hs_events.specs.Due.{Events};
 ghost use Rattle.hs_events.specs.Found.{Found, first_core, opens_with};
@@ -46,8 +48,9 @@ use hs_standing::a_run_goes_on;
 /// on it has its seats, what is known of copies is within their lists, and it has room for root records. So
 /// the journal of a book that was opened with such a core is one of deeds (`book`). Where it opened over logs
 /// that were taken, with any number of copies, nothing is asked of copies, nor of what comes: it has room for
-/// root records as it opens, and the book sees to the rest (`copies`). With one copy a shard nothing more is
-/// asked than that its core opened over sound lists (`alone`).
+/// root records as it opens, and the book sees to the rest (`copies`). As long as it goes on its catalogues and
+/// sessions are what the deeds leave (`leaves`). With one copy a shard nothing more is asked than that its core
+/// opened over sound lists (`alone`).
 pub fn a_history_is_its_deeds()
     ensures run { (set : Setting) (found : Found) (commands : ℕ → Option Command)
         (events : Events) (cs : List Folded)
@@ -69,6 +72,14 @@ pub fn a_history_is_its_deeds()
         → AreTakenLogs set.shape (opens_with set found) logs
         → HasRecordRoom (first_core set found) → History (first_core set found) book →
         AreDeeds set.limits (hollow (store_with cs [])) [] (map as_deed book.core.journal) }
+    ensures leaves { (set : Setting) (found : Found) (cs : List Folded)
+        (logs : ℕ → List (Item Entry)) (book : Book) → GivesAddresses set.name
+        → MayOpen (any_lines set) set.shape (opens_with set found) found.opened cs
+        → AreTakenLogs set.shape (opens_with set found) logs
+        → HasRecordRoom (first_core set found) → History (first_core set found) book
+        → book.core.ended ≡ None →
+        store_after (hollow (store_with cs [])) (map as_deed book.core.journal)
+        ≡ bare_store book.core }
     ensures alone { (set : Setting) (found : Found) (book : Book)
         → OpensSoundly set found → History (first_core set found) book →
         AreDeeds set.limits (hollow (store_with (opened_folds set found) [])) []
