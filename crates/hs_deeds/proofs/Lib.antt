@@ -21,3 +21,4 @@ pub mod OpensLemmas
 pub mod HistoryLemmas
 pub mod BookLemmas
 pub mod BookComesLemmas
+mod Examples

@@ -1,5 +1,5 @@
 -- Counts of a map's keys by shard, as keys come and go.
-use Rattle.std.proofs.Common.{◌≡◌, ◌≢◌, ◌⊎◌, inl, inr, ℕ, ◌+◌, ◌-◌, ◌%◌, ◌<◌, ◌≤◌, List, [], ◌∷◌, Bool, true, false, not, cond, Option, Some, None, refl, sym, ap, ◌∙◌, subst, filter, length, replicate, slice_index, slice_index_or, slice_set, is_eq, Ordering, Less, Equal, Greater, ◌==◌, ◌&&◌, nat_lt, arith, mod-lt}
+use Rattle.std.proofs.Common.{◌≡◌, ◌≢◌, ◌⊎◌, inl, inr, ℕ, ◌+◌, ◌-◌, ◌%◌, ◌<◌, ◌≤◌, List, [], ◌∷◌, Bool, true, false, not, cond, Some, None, refl, sym, ap, ◌∙◌, subst, filter, length, replicate, slice_index, slice_index_or, slice_set, is_eq, Ordering, Less, Equal, Greater, ◌==◌, ◌&&◌, nat_lt, arith, mod-lt}
 use Rattle.std.proofs.lemmas.List.{get_or_default, get_or-set_same, get_or-set_other, length-set, get_or-replicate, length-replicate}
 use Rattle.std.proofs.lemmas.Bool.{and_parts, eq-eqb, eqb-true}
 use Rattle.std.proofs.lemmas.Bool.Decides.{eqb_tells}
@@ -13,7 +13,6 @@ use Rattle.hs_limits.specs.Shape.{IsShape, shard_of}
 use Rattle.hs_model.specs.declared.slow.unreached.Run.{Run}
 use Rattle.hs_model.specs.declared.store.StoredBlock.{StoredBlock}
 use Rattle.hs_model.specs.Reach.{is_among}
-use Rattle.hs_model.specs.Store.{address_cmp}
 use Rattle.hs_model.specs.Swept.{removes}
 use Rattle.hs_plain.specs.Counted.{AreCounts}
 use Rattle.hs_model.proofs.CountLemmas.{count-cons}

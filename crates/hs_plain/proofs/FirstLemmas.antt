@@ -1,9 +1,15 @@
 -- The first refusal of a list of handles, handle by handle.
-use Rattle.std.proofs.Common.{◌≡◌, ℕ, ◌+◌, ◌<◌, ◌≤◌, List, ◌∷◌, length, Option, Some, None, get_or, drop, ◌∙◌}
+use Rattle.std.proofs.Common.{◌≡◌, ℕ, ◌+◌, ◌<◌, ◌≤◌, Bool, refl, List, [], ◌∷◌, ◌++◌, length, Option, Some, None, get_or, drop, ◌∙◌}
 use Rattle.std.proofs.lemmas.List.{at_drop_more, at_drop_all}
 use Rattle.hs_model.specs.declared.reply.Reply.{Reply}
-use Rattle.hs_model.specs.Refusals.{first, no_such_handle, no_handle_in, stale_handle, stale_in}
-use Rattle.hs_model.specs.Store.{Session, held_in}
+use Rattle.hs_limits.specs.declared.address.Address.{Address}
+use Rattle.hs_limits.specs.declared.limits.Limits.{Limits}
+use Rattle.hs_model.specs.declared.op.Asked.TheVariants as asked
+use Rattle.hs_model.specs.declared.reply.Reply.TheVariants as reply
+use Rattle.hs_model.specs.Deeds.{is_too_long, refusals_told}
+use Rattle.hs_model.specs.Judge.{given_address}
+use Rattle.hs_model.specs.Refusals.{first, handles_full, handles_full_in, no_handle, no_session, no_such_handle, no_handle_in, refused_when, shard_full, stale, stale_handle, stale_in, too_many}
+use Rattle.hs_model.specs.Store.{Session, Store, epoch_at, held_in, session_at}
 
 -- a refusal at the head is the first, and none there leaves the rest
 pub first-some : (o : Option Reply) (r : Reply) (rest : List (Option Reply)) → o ≡ Some r → first (o ∷ rest) ≡ Some r
@@ -42,3 +48,37 @@ stale_skips session now handles i h e =
 pub stale_ends : (session : Option Session) (now : ℕ) (handles : List ℕ) (i : ℕ) → length handles ≤ i → stale_in session now (drop i handles) ≡ None
 unfolding stale_in
 stale_ends session now handles i h = at_drop_all (stale_in session now) handles i h
+
+-- ---- a write as it is told
+
+pub write_told : (limits : Limits) (s : Store) (name : List ℕ) (bytes : ℕ) (handles : List ℕ) (now : ℕ) (session : Session) → session_at s name ≡ Some session → first (no_session s name ∷ is_too_long bytes ∷ too_many handles ∷ no_handle s name handles ∷ handles_full limits s name 1 ∷ stale s name now handles ∷ []) ≡ first (is_too_long bytes ∷ too_many handles ∷ no_handle_in (Some session) handles ∷ handles_full_in limits (Some session) 1 ∷ stale_in (Some session) now handles ∷ [])
+write_told limits s name bytes handles now session e = rw e
+
+pub first_one : (o : Option Reply) → first (o ∷ []) ≡ o
+first_one None = refl
+first_one (Some r) = refl
+
+front_some : (xs ys : List (Option Reply)) (r : Reply) → first xs ≡ Some r → first (xs ++ ys) ≡ Some r
+front_some [] ys r e = absurd (cc e)
+front_some (Some q ∷ xs) ys r e = e
+front_some (None ∷ xs) ys r e = front_some xs ys r e
+
+front_none : (xs ys : List (Option Reply)) → first xs ≡ None → first (xs ++ ys) ≡ first ys
+front_none [] ys e = refl
+front_none (Some q ∷ xs) ys e = absurd (cc e)
+front_none (None ∷ xs) ys e = front_none xs ys e
+
+module _ (limits : Limits) (s : Store) (name : List ℕ) (bytes : ℕ) (handles : List ℕ) (address : Option Address) (collides : Bool) where
+  abbrev of_session : List (Option Reply)
+  of_session = no_session s name ∷ is_too_long bytes ∷ too_many handles ∷ no_handle s name handles ∷ handles_full limits s name 1 ∷ stale s name (epoch_at s (given_address address)) handles ∷ []
+
+  abbrev of_block : List (Option Reply)
+  of_block = refused_when collides reply.Collision ∷ shard_full limits s (given_address address) ∷ []
+
+  pub told_of_session : (r : Reply) → first of_session ≡ Some r → first (refusals_told limits s (asked.Write name bytes handles address) collides) ≡ Some r
+  unfolding refusals_told
+  told_of_session r e = front_some of_session of_block r e
+
+  pub told_of_block : first of_session ≡ None → first (refusals_told limits s (asked.Write name bytes handles address) collides) ≡ first of_block
+  unfolding refusals_told
+  told_of_block e = front_none of_session of_block e

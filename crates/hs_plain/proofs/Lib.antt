@@ -3,3 +3,7 @@ mod HoldLemmas
 mod CountLemmas
 mod PlaceLemmas
 mod RootLemmas
+mod HoldingLemmas
+mod DeedLemmas
+mod DoesLemmas
+mod ReplayLemmas

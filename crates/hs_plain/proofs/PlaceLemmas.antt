@@ -1,21 +1,16 @@
 -- Lists whose roots are each at its place.
-use Rattle.std.proofs.Common.{◌≡◌, ℕ, List, [], ◌∷◌, ◌++◌, Bool, true, false, cond, Option, Some, None, refl, sym, ap, ◌∙◌, filter, find, map, is_eq, is_gt, Ordering, Less, Equal, Greater, ◌||◌}
+use Rattle.std.proofs.Common.{◌≡◌, List, [], ◌∷◌, ◌++◌, Bool, true, false, cond, Some, None, refl, sym, ap, ◌∙◌, filter, find, map, is_gt, Ordering, Less, Equal, Greater, ◌||◌}
 use Rattle.std.proofs.lemmas.Bool.{false≢true}
-use Rattle.std.proofs.lemmas.Cmp.{nat_cmp_total, ranked, then_total, on_total, upto}
-use Rattle.std.proofs.lemmas.Map.Text.{is_eq-slice_cmp}
-use Rattle.std.proofs.lemmas.Slice.Eq.{bytes_eq-Decides}
-use Rattle.std.specs.Cmp.{IsTotalOrder}
-use Rattle.std.specs.Cmp.Lexicographic.{on_texts}
+use Rattle.std.proofs.lemmas.Cmp.{upto}
 use Rattle.std.specs.List.{AllByRecursion, count_by}
-use Rattle.std.specs.Ordering.{ordering_reverse, ordering_then}
+use Rattle.std.specs.Ordering.{ordering_reverse}
 use Rattle.hs_limits.specs.declared.address.Address.{Address}
 use Rattle.hs_model.specs.Reach.{is_same, is_among}
 use Rattle.hs_plain.specs.RootWords.{in_place}
-use Rattle.hs_model.specs.Store.{Root, text_cmp, address_cmp, root_cmp, dropped_cmp, place_root, without_first}
+use Rattle.hs_model.specs.Store.{Root, root_cmp, place_root, without_first}
 use Rattle.hs_model.proofs.CountLemmas.{count-cons}
 use Rattle.hs_plain.proofs.CountLemmas.{count-rest, count-more}
-use Rattle.hs_model.proofs.Members.{same_from, at_is_same}
-use Rattle.hs_model.proofs.PlaceLemmas.{Before, Rising, root_total, root_same, text_same, before-all, before-flips, place-all, place-rising}
+use Rattle.hs_model.proofs.PlaceLemmas.{Before, Rising, root_total, root_same, before-all, place-rising}
 
 in_place-rising : (rs : List Root) → Rising (in_place rs)
 in_place-rising [] = tt

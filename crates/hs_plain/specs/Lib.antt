@@ -1,3 +1,5 @@
 pub mod RootWords
 pub mod Counted
 pub mod Checked
+pub mod Holding
+pub mod Deeds

@@ -1,7 +1,6 @@
 -- What the store in memory looks up among its roots, and how it keeps them.
-use Rattle.std.specs.Prelude.{ℕ, ◌+◌, Bool, true, not, List, [], ◌∷◌, ◌++◌, Option, Some, None, find, map, nat_le}
-use Rattle.std.specs.List.{list_all}
-use Rattle.std.specs.Option.{option_map, option_map_or}
+use Rattle.std.specs.Prelude.{ℕ, List, [], ◌∷◌, ◌++◌, Option, Some, None, find, map}
+use Rattle.std.specs.Option.{option_map}
 use Rattle.hs_limits.specs.declared.address.Address.{Address}
 use Rattle.hs_plain.specs.declared.roots.DroppedRoot.{DroppedRoot}
 use Rattle.hs_model.specs.Judge.{drop_root, roots_with}

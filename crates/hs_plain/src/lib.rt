@@ -4,6 +4,7 @@
 mod answer;
 mod blocks;
 mod memory_store;
+mod replay;
 mod roots;
 mod seat;
 

@@ -6,10 +6,14 @@ ghost use Rattle.hs_model.specs.Store.{empty_store, epoch_at, root_epoch};
 
 mod close;
 mod count;
+mod deed;
+mod deed_block;
+mod deed_run;
 mod delete;
 mod drop_root;
 mod enter;
 mod forget;
+mod held;
 mod look;
 mod name;
 mod open;
@@ -17,6 +21,7 @@ mod read;
 mod root;
 mod stat;
 mod sweep;
+mod told;
 mod write;
 
 use crate::Answer;

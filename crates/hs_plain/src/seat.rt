@@ -1,8 +1,11 @@
 //! An open session of the plain store.
-ghost use Rattle.std.specs.Prelude.{◌≡◌, ◌∷◌, [], length, IfOk, OnOk};
+ghost use Rattle.std.specs.Prelude.{◌≡◌, ◌∷◌, [], false, length, IfOk, OnOk};
 ghost use Rattle.std.specs.List.{range_with_len};
+ghost use Rattle.std.specs.Option.{option_map_or};
+ghost use Rattle.hs_model.specs.Deeds.{is_too_long};
 ghost use Rattle.hs_model.specs.Judge.{forgetting};
-ghost use Rattle.hs_model.specs.Refusals.{first, too_long, too_many, handles_full_in, no_handle_in, stale_in, stale_handle};
+ghost use Rattle.hs_model.specs.Refusals.{first, too_many, handles_full_in, no_handle_in, stale_in, stale_handle};
+ghost use Rattle.hs_plain.specs.Holding.{has_each, has_fresh, has_held, is_fresh_of, is_held, may_mark, may_take};
 ghost use Rattle.hs_model.specs.Store.{new_session, holding, holding_all, held_in, helds_of};
 
 use hs_limits::{Address, Held, Limits, ListOf, MOST_BYTES, MOST_POINTERS};
@@ -100,25 +103,23 @@ impl Seat {
         self.stale(now, &[handle])
     }
 
-    /// Why it takes no write of these bytes and handles in an epoch, if it does not.
+    /// Why it takes no write of so many bytes and these handles in an epoch, if it does not.
     pub(crate) fn write_refusal(
         &self,
         limits: Limits,
         now: u64,
-        payload: &[u8],
+        length: u64,
         handles: &[u32],
     ) -> Option<Reply>
-        ensures { result ≡ first (too_long payload.now
+        ensures { result ≡ first (is_too_long length
             ∷ too_many handles.now
             ∷ no_handle_in (Some self.now) handles.now
             ∷ handles_full_in limits (Some self.now) 1
             ∷ stale_in (Some self.now) now handles.now
             ∷ []) }
     {
-        if payload.len() > MOST_BYTES {
-            return Some(Reply::TooLong {
-                found: payload.len() as u64,
-            });
+        if length > MOST_BYTES as u64 {
+            return Some(Reply::TooLong { found: length });
         }
         if handles.len() > MOST_POINTERS {
             return Some(Reply::TooMany {
@@ -155,6 +156,53 @@ impl Seat {
             return Some(refusal);
         }
         self.handles_full(limits, more)
+    }
+
+    /// Whether it has this, with its epoch.
+    pub(crate) fn has_held(&self, held: &Held) -> bool
+        ensures { result ≡ has_held self.now held.now }
+    {
+        self.handles
+            .keys()
+            .any(|handle| stands_for(self.held(*handle), held))
+    }
+
+    /// Whether it has an address in an epoch that is fresh in another.
+    pub(crate) fn has_fresh(&self, now: u64, address: &Address) -> bool
+        ensures { result ≡ has_fresh self.now now address.now }
+    {
+        self.handles
+            .keys()
+            .any(|handle| stands_fresh(self.held(*handle), now, address))
+    }
+
+    /// Whether it has each of some addresses in such an epoch.
+    pub(crate) fn has_each(&self, now: u64, addresses: &[Address]) -> bool
+        ensures { result ≡ has_each self.now now addresses.now }
+    {
+        addresses.iter().all(|address| self.has_fresh(now, address))
+    }
+
+    /// Whether it may write a block that points to some addresses, in an epoch, and a handle is its next.
+    pub(crate) fn may_take(
+        &self,
+        limits: Limits,
+        now: u64,
+        pointers: &[Address],
+        handle: u32,
+    ) -> bool
+        ensures { result ≡ may_take limits self.now now pointers.now handle }
+    {
+        self.may_mark(now, pointers, handle)
+            && pointers.len() <= MOST_POINTERS
+            && self.handles_full(limits, 1).is_none()
+    }
+
+    /// Whether it has each of some addresses in a fresh epoch, and a handle is its next.
+    pub(crate) fn may_mark(&self, now: u64, pointers: &[Address], handle: u32) -> bool
+        ensures { result ≡ may_mark self.now now pointers.now handle }
+    {
+        self.has_each(now, pointers) && self.next == handle
     }
 
     /// The refusal where so many new handles would make more than the limit.
@@ -209,4 +257,24 @@ fn stale_handle(now: u64, handle: u32, held: Option<Held>) -> Option<Reply>
         });
     }
     None
+}
+
+/// Whether a handle stands for an address in an epoch that is fresh in another.
+fn stands_fresh(held: Option<Held>, now: u64, address: &Address) -> bool
+    ensures { result ≡ option_map_or (is_fresh_of now address.now) held false }
+{
+    let Some(held) = held else {
+        return false;
+    };
+    held.address == *address && now.saturating_sub(1) <= held.epoch
+}
+
+/// Whether a handle stands for this.
+fn stands_for(held: Option<Held>, wanted: &Held) -> bool
+    ensures { result ≡ option_map_or (is_held wanted.now) held false }
+{
+    let Some(held) = held else {
+        return false;
+    };
+    held.address == wanted.address && held.epoch == wanted.epoch
 }

@@ -31,7 +31,7 @@ impl MemoryStore {
     }
 
     /// Why a session is not closed, if it is not.
-    fn close_refusal(&self, session: &Name) -> Result<Option<Reply>, ModelFault>
+    pub(super) fn close_refusal(&self, session: &Name) -> Result<Option<Reply>, ModelFault>
         ensures { IfOk result
             (λ refusal. refusal ≡ first (no_session self.now session.now ∷ [])) }
     {

@@ -30,7 +30,7 @@ impl MemoryStore {
 
     /// Why no run begins, if none does.
     #[tactic(auto, unfolding(hs_model::specs::Judge::refusals))]
-    fn delete_refusal(&self, limits: Limits) -> Option<Reply>
+    pub(super) fn delete_refusal(&self, limits: Limits) -> Option<Reply>
         ensures value { result ≡ first (refusals limits self.now Delete) }
         ensures shards { 0 < length self.now.epochs }
     {

@@ -31,7 +31,7 @@ impl MemoryStore {
     }
 
     /// Why a root is not looked up, if it is not.
-    fn look_refusal(
+    pub(super) fn look_refusal(
         &self,
         limits: Limits,
         session: &Name,

@@ -32,7 +32,11 @@ impl MemoryStore {
 
     /// Why a session is not opened, if it is not.
     #[tactic(auto, unfolding(hs_model::specs::Judge::refusals))]
-    fn open_refusal(&self, limits: Limits, session: &Name) -> Result<Option<Reply>, ModelFault>
+    pub(super) fn open_refusal(
+        &self,
+        limits: Limits,
+        session: &Name,
+    ) -> Result<Option<Reply>, ModelFault>
         ensures { IfOk result
             (λ refusal. refusal ≡ first (refusals limits self.now (Open session.now))) }
     {

@@ -36,7 +36,7 @@ impl MemoryStore {
 
     /// Why a session takes no read, if it does not.
     #[tactic(auto, unfolding(hs_model::specs::Judge::refusals))]
-    fn read_refusal(
+    pub(super) fn read_refusal(
         &self,
         limits: Limits,
         session: &Name,
@@ -67,7 +67,7 @@ impl MemoryStore {
     }
 
     /// Does what a read does that is not refused.
-    fn grant_read(&mut self, session: Name, held: Held) -> Result<Answer, ModelFault>
+    pub(super) fn grant_read(&mut self, session: Name, held: Held) -> Result<Answer, ModelFault>
         requires { IsSome (session_at self.old session) }
         ensures reply { IfOk result (λ answer. answer.reply ≡ (read self.old session held).reply) }
         ensures deed { IfOk result (λ answer. answer.deed ≡ (read self.old session held).deed) }
@@ -100,7 +100,7 @@ impl MemoryStore {
     }
 
     /// The pointers of a block that is present, and none of one that is not.
-    fn pointers_at(&self, address: &Address) -> Result<ListOf<Address>, ModelFault>
+    pub(super) fn pointers_at(&self, address: &Address) -> Result<ListOf<Address>, ModelFault>
         ensures { IfOk result (λ pointers. pointers ≡ pointers_of (block_at self.now address.now)) }
     {
         let Some(stored) = self.blocks.as_map().get(address) else {

@@ -41,7 +41,7 @@ impl MemoryStore {
     }
 
     /// Why a session puts no root, if it does not.
-    fn root_refusal(
+    pub(super) fn root_refusal(
         &self,
         limits: Limits,
         session: &Name,
@@ -69,7 +69,7 @@ impl MemoryStore {
     }
 
     /// Why a key does not come to retain an address, if it does not.
-    fn key_refusal(
+    pub(super) fn key_refusal(
         &self,
         limits: Limits,
         key: &Key,
@@ -104,7 +104,7 @@ impl MemoryStore {
     }
 
     /// Does what putting a root does that is not refused.
-    fn grant_root(&mut self, key: Key, address: Address) -> Result<Answer, ModelFault>
+    pub(super) fn grant_root(&mut self, key: Key, address: Address) -> Result<Answer, ModelFault>
         ensures reply { IfOk result (λ answer. answer.reply ≡ (rooted self.old key address).reply) }
         ensures deed { IfOk result (λ answer. answer.deed ≡ (rooted self.old key address).deed) }
         ensures store { OnOk result (self.new ≡ (rooted self.old key address).store) }

@@ -4,8 +4,9 @@ ghost use Rattle.hs_limits.specs.Block.{Block};
 ghost use Rattle.hs_model.specs.declared.op.Op.TheVariants.{Write};
 ghost use Rattle.hs_model.specs.declared.op.Op.{Op};
 ghost use Rattle.hs_plain.specs.Checked.{IsChecked};
+ghost use Rattle.hs_model.specs.Deeds.{is_too_long};
 ghost use Rattle.hs_model.specs.Judge.{judge, refusals, address_of, given_address, wrote, written_reply, written_deed};
-ghost use Rattle.hs_model.specs.Refusals.{first, collision, shard_full, is_block, no_session, too_long, too_many, no_handle, handles_full, stale};
+ghost use Rattle.hs_model.specs.Refusals.{first, collision, shard_full, is_block, no_session, too_many, no_handle, handles_full, stale};
 ghost use Rattle.hs_model.specs.Store.{session_at, block_at, blocks_in, shard_at, epoch_at, next_of, hold_all, with_block};
 
 use super::{MemoryStore, nothing};
@@ -68,7 +69,8 @@ impl MemoryStore {
         let place = given_address(address);
         let payload = payload.as_slice();
         let handles = handles.as_slice();
-        if let Some(refusal) = self.write_refusal(limits, session, payload, handles, &place)? {
+        let length = payload.len() as u64;
+        if let Some(refusal) = self.write_refusal(limits, session, length, handles, &place)? {
             return Ok(Checked::Refused(refusal));
         }
         let pointers = self.addresses(session, handles)?;
@@ -78,19 +80,19 @@ impl MemoryStore {
         Ok(Checked::Taken(pointers))
     }
 
-    /// Why a session takes no write, if it does not.
-    fn write_refusal(
+    /// Why a session takes no write of so many bytes, if it does not.
+    pub(super) fn write_refusal(
         &self,
         limits: Limits,
         session: &Name,
-        payload: &[u8],
+        length: u64,
         handles: &[u32],
         address: &Address,
     ) -> Result<Option<Reply>, ModelFault>
         ensures { IfOk result
             (λ refusal. refusal
             ≡ first (no_session self.now session.now
-            ∷ too_long payload.now
+            ∷ is_too_long length
             ∷ too_many handles.now
             ∷ no_handle self.now session.now handles.now
             ∷ handles_full limits self.now session.now 1
@@ -102,7 +104,7 @@ impl MemoryStore {
                 session: session.copy(self.alloc)?,
             }));
         };
-        Ok(seat.write_refusal(limits, self.epoch_at(address), payload, handles))
+        Ok(seat.write_refusal(limits, self.epoch_at(address), length, handles))
     }
 
     /// The addresses that some handles stand for.
@@ -146,7 +148,7 @@ impl MemoryStore {
     }
 
     /// Whether as many blocks as the limit are present in the shard of an address.
-    fn is_shard_full(&self, limit: u32, address: &Address) -> bool
+    pub(super) fn is_shard_full(&self, limit: u32, address: &Address) -> bool
         ensures { result ≡ nat_le limit (blocks_in self.now (shard_at self.now address.now)) }
     {
         let shard = shard_of(address, self.shape);
@@ -154,7 +156,7 @@ impl MemoryStore {
     }
 
     /// Does what a write does that is not refused.
-    fn grant_write(
+    pub(super) fn grant_write(
         &mut self,
         session: Name,
         address: Address,

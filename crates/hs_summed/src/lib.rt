@@ -1,0 +1,6 @@
+//! What the summary of a load counts: laws, each a function without parameters whose clauses are the law.
+#![tactic(auto)]
+
+mod summed;
+
+pub use summed::a_done_load_sums_up;
