@@ -1,0 +1,6 @@
+//! A core beside its whole lists owes nothing to those who do its jobs: laws, each a function without parameters whose clauses are the law.
+#![tactic(auto)]
+
+mod steady;
+
+pub use steady::{a_store_goes_on_steadily, each_event_is_steady, what_is_whole_in_step_is_steady};
