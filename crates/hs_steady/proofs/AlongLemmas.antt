@@ -19,7 +19,7 @@ use Rattle.hs_core_words.specs.declared.event.Event.{Event}
 use Rattle.hs_core_words.specs.declared.event.Event.TheVariants as event
 use Rattle.hs_core_words.specs.declared.task.Task.{Task}
 use Rattle.hs_core_words.specs.Failing.{go_down}
-use Rattle.hs_core_words.specs.Looking.{first_task, home, shape_of, status_of, tasks_of}
+use Rattle.hs_core_words.specs.Looking.{first_job, first_task, home, rejoin_of, shape_of, status_of, tasks_of}
 use Rattle.hs_core_words.specs.Reporting.{on_report}
 use Rattle.hs_core_words.specs.State.{Core}
 use Rattle.hs_core_words.specs.Step.{do_event, end_event, step}
@@ -51,7 +51,7 @@ use Rattle.hs_steady.proofs.ToldLemmas.{keeps_log, tells_log}
 -- ---- a peer that is down
 
 pub log_down : (c : Whole) (q : ℕ) → status_of q c.core ≡ Down → log_of_peer c q ≡ None
-log_down c q down = ap (λ x. log_by c q x _) down
+log_down c q down = ap (λ x. log_by c q x (rejoin_of q c.core)) down
 
 -- by its line, or as it was
 down_by_line : (line q : ℕ) (c : Core) → status_of q (do_event (event.Fail line q) c) ≡ Down
@@ -138,7 +138,7 @@ module _ (c : Whole) (e : Event) (at : ℕ) (machines : ℕ → Copies Entry) (w
       let down : status_of q (step e at c.core) ≡ Down = past_now q high in
       let none : log_of_peer (step_whole e at c) q ≡ None = log_down (step_whole e at c) q down in
       let lists : (step_whole e at c).lists q ≡ c.lists q = stays.keeps.past q (rw same high) ∙ sym (w.past q high) in
-      let adds : (step_whole e at c).adds q ≡ c.adds q = ap (λ x. added_by (c.adds q) (step_whole e at c).lists x _ _) down in
+      let adds : (step_whole e at c).adds q ≡ c.adds q = ap (λ x. added_by (c.adds q) (step_whole e at c).lists x (rejoin_of q (step e at c.core)) (first_job q (step e at c.core))) down in
       record {
         same = λ list there. (let wrong : None ≡ Some list = sym none ∙ there in absurd (cc wrong));
         begins = λ i. ([], ap (λ xs. xs ++ (step_whole e at c).adds q) lists ∙ ap (λ xs. c.lists q ++ xs) adds ∙ sym (append-nil (reach c q)));

@@ -94,15 +94,15 @@ among_passes test q (p ∷ qs) e k = go (test p) refl k (λ rest. among_passes t
 
 among_kept : (test : ℕ → Bool) (q : ℕ) (qs : List ℕ) → IsAmong q (filter test qs) → IsAmong q qs
 among_kept test q [] k = absurd k
-among_kept test q (p ∷ qs) k = go (test p) refl k
+among_kept test q (p ∷ qs) k = go (test p) refl k (λ rest. among_kept test q qs rest)
   where
-    go : (b : Bool) → test p ≡ b → IsAmong q (filter test (p ∷ qs)) → IsAmong q (p ∷ qs)
-    go true i h = both (rw i at h)
+    go : (b : Bool) → test p ≡ b → IsAmong q (filter test (p ∷ qs)) → (IsAmong q (filter test qs) → IsAmong q qs) → IsAmong q (p ∷ qs)
+    go true i k h = both (rw i at k)
       where
         both : IsAmong q (p ∷ filter test qs) → IsAmong q (p ∷ qs)
         both (inl same) = inl same
-        both (inr rest) = inr (among_kept test q qs rest)
-    go false i h = let rest : IsAmong q (filter test qs) = rw i at h in inr (among_kept test q qs rest)
+        both (inr rest) = inr (h rest)
+    go false i k h = let rest : IsAmong q (filter test qs) = rw i at k in inr (h rest)
 
 in_range : (q n k : ℕ) → IsAmong q (range_with_len n k) → (n ≤ q) × (q < n + k)
 in_range q n zero a = absurd a
@@ -117,6 +117,10 @@ joining_own x q c a =
     ap (λ k. k / c.members.shape.copies) e ∙ div-mul-add x c.members.shape.copies (q - x * c.members.shape.copies) (omega (arith, r.0, r.1))
 
 -- ---- the last good peer goes down
+
+-- members and groups tell who leads
+lead_by_both : (y : ℕ) (a b : Core) → b.members ≡ a.members → b.groups ≡ a.groups → lead_of y b ≡ lead_of y a
+lead_by_both y a b members groups = rw (members, groups) refl
 
 -- what is left then of whom the shards' groups told before
 module _ (x l : ℕ) (c : Core) (k : IsTold x c) (own : home l c ≡ x) (leads : lead_of x c ≡ Some l) (lost : has_good x (go_down l c).members ≡ false) where
@@ -186,4 +190,4 @@ module _ (x l : ℕ) (c : Core) (k : IsTold x c) (own : home l c ≡ x) (leads :
 
   pub fallen_lead : (y d : ℕ) → y ≢ x → IsTold y c → lead_of y c ≡ Some d → lead_of y (go_down l c) ≡ Some d
   fallen_lead y d n told e =
-      ap (lead_of y) fallen_is ∙ rw (same.groups, same.members) refl ∙ (status_apart y l Down c (λ of. n (sym of ∙ own)) told).1.lead d e
+      ap (lead_of y) fallen_is ∙ lead_by_both y (leave l c) (each (joining_peers x (leave l c)) begin_joining (leave l c)) same.members same.groups ∙ (status_apart y l Down c (λ of. n (sym of ∙ own)) told).1.lead d e

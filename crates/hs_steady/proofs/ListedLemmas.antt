@@ -68,7 +68,7 @@ report_is q d (event.Fail line p) c t = let wrong : None ≡ Some (q, d) = t in 
 report_is q d (event.Start line p) c t = let wrong : None ≡ Some (q, d) = t in absurd (cc wrong)
 report_is q d (event.Report p x) c t = go (is_answer c p x) refl t
   where
-    go : (b : Bool) → is_answer c p x ≡ b → (if b then Some (p, x) else None) ≡ Some (q, d) → IsReport q d (event.Report p x) c
+    go : (b : Bool) → is_answer c p x ≡ b → if◌then◌else◌ {A = Option (ℕ × Done)} b (Some (p, x)) None ≡ Some (q, d) → IsReport q d (event.Report p x) c
     go false a h = let wrong : None ≡ Some (q, d) = h in absurd (cc wrong)
     go true a h =
         let pair : (p, x) ≡ (q, d) = cc h in
@@ -180,13 +180,15 @@ pub map_job : (o : Option Job) → option_map (λ (t : Task). t.job) (option_map
 map_job None = refl
 map_job (Some j) = refl
 
+pub next_reset : (n : ℕ) (r : Rejoin) → r.empty ≡ true → next_job n r ≡ Some job.Reset
+next_reset n r due = rw due refl
+
 -- an emptying that is due comes first
 reset_first : (g q : ℕ) (c : Whole) (s : Copies Entry) → IsShardInStep g c s → IsOf c.core.members.shape g q → (r : Rejoin) → status_of q c.core ≡ Joining → rejoin_of q c.core ≡ Some r → r.empty ≡ true → first_job q c.core ≡ Some job.Reset
 reset_first g q c s k own r joins came due =
     let d : HasLead (copies_in g k.in_step.sent c.core) s = stands_lead (copies_in g k.in_step.sent c.core) s k.in_step.stands in
     let leads : lead_of (home q c.core) c.core ≡ Some d.peer = ap (λ x. lead_of x c.core) own ∙ lead_in_step g c.core s k.in_step ∙ d.is in
-    let next : next_job (sealed_of d.peer c.core) r ≡ Some job.Reset = rw due refl in
-    rw (joins, leads, came) (map_job (next_job (sealed_of d.peer c.core) r)) ∙ next
+    rw (joins, leads, came) (map_job (next_job (sealed_of d.peer c.core) r)) ∙ next_reset (sealed_of d.peer c.core) r due
 
 module _ (g q : ℕ) (e : Event) (at : ℕ) (c : Whole) (s t : Copies Entry) (k : IsShardInStep g c s) (own : IsOf c.core.members.shape g q) (on : (step e at c.core).ended ≡ None)
     (k' : IsShardInStep g (step_whole e at c) t) (own' : IsOf (step e at c.core).members.shape g q) where
@@ -209,18 +211,17 @@ module _ (g q : ℕ) (e : Event) (at : ℕ) (c : Whole) (s t : Copies Entry) (k 
       goes : GoesTold g (step e at c.core) s (lists_told g e c.core s)
       goes = steps_tell g e at c.core s k.in_step (was_going e at c.core on) on
 
-      abbrev now : Copies Entry
-      now = after_events s goes.events
-
-      idle : ((now.peers q).list ≡ lists_told g e c.core s q) ⊎ ((now.peers q).stage ≡ GoodStage) → (now.peers q).list ≡ lists_told g e c.core s q
+      idle : (((after_events s goes.events).peers q).list ≡ lists_told g e c.core s q) ⊎ (((after_events s goes.events).peers q).stage ≡ GoodStage) → ((after_events s goes.events).peers q).list ≡ lists_told g e c.core s q
       idle (inl same) = same
       idle (inr good) =
+          let now : Copies Entry = after_events s goes.events in
           let stage : is_good_stage (now.peers q).stage ≡ is_good_status (status_of q (step e at c.core)) =
           ap is_good_stage (goes.keeps.stands.peers.stage q (home_of_peer g (step e at c.core) now goes.keeps q own')) ∙ good_status (status_of q (step e at c.core)) (rejoin_at (step e at c.core) q).empty in
           absurd (bad (good_only (status_of q (step e at c.core)) (sym stage ∙ stage_good (now.peers q).stage good)))
 
       short : length_of (group_of (home q (step e at c.core)) (step e at c.core)) q ≡ length xs
       short =
+          let now : Copies Entry = after_events s goes.events in
           ap (λ i. length_of (group_of i (step e at c.core)) q) own' ∙ length_is (copies_in g goes.keeps.sent (step e at c.core)) now goes.keeps.stands q (home_of_peer g (step e at c.core) now goes.keeps q own')
           ∙ ap (λ (l : List (Item Entry)). length l) (idle (goes.tells.idle q)) ∙ sym (long_told g q e c s k own) ∙ ap (λ (l : Numbered). length l) is
 

@@ -28,6 +28,7 @@ use Rattle.hs_core_words.specs.Looking.{first_job, group_of, home, lead_of, lost
 use Rattle.hs_core_words.specs.Reporting.{on_report}
 use Rattle.hs_core_words.specs.State.{Core}
 use Rattle.hs_core_words.specs.Step.{do_event, end_event, keep_entries, refuse_entries, step}
+use Rattle.hs_desk.specs.Answers.{answers}
 use Rattle.hs_desk.specs.declared.done.Done.{Done}
 use Rattle.hs_desk.specs.declared.done.Done.TheVariants as done
 use Rattle.hs_desk.specs.declared.fault.CoreFault.{CoreFault}
@@ -59,12 +60,15 @@ use Rattle.hs_whole_copies.specs.Whole.{IsShardInStep, IsWholeInStep, is_copying
 use Rattle.hs_steady.proofs.FallenLemmas.{fallen_groups, fallen_joins, fallen_lead, fallen_members, fallen_rejoin, good_there}
 use Rattle.hs_steady.proofs.FaresLemmas.{ByDisk, ByLine, FallsBy, Fares, Left, Off, falls_down, untold_fares}
 use Rattle.hs_steady.proofs.LeavesLemmas.{Leaves, leaves_fall}
-use Rattle.hs_steady.proofs.ListedLemmas.{IsReport, map_job, none_taken, report_is}
+use Rattle.hs_steady.proofs.ListedLemmas.{IsReport, map_job, next_reset, none_taken, report_is}
 use Rattle.hs_steady.proofs.PeerLemmas.{adds_good, adds_none, floor_bad, home_q, long_q}
 use Rattle.hs_steady.proofs.QueueLemmas.{IsAnswered, first_job_by, job_answered}
 use Rattle.hs_steady.proofs.SteadyLemmas.{its_shard, past_down}
 use Rattle.hs_steady.proofs.TakenLemmas.{TellsWork, failed_told, told_of, work_told}
 use Rattle.hs_steady.proofs.ToldLemmas.{reclaim_is}
+
+rows : (n i width : ℕ) → i < n → i * width + width ≤ n * width
+rows n i width less = grind (arith, less)
 
 -- a number that is no peer's is of no shard
 home_high : (shape : Shape) (q : ℕ) → 1 ≤ shape.copies → peer_count shape ≤ q → shape.shards ≤ home_of shape q
@@ -75,9 +79,6 @@ home_high shape q some past = elim (cases_lt (home_of shape q) shape.shards) [
       let row : q / shape.copies * shape.copies + shape.copies ≤ shape.shards * shape.copies = rows shape.shards (q / shape.copies) shape.copies low in
       absurd (omega (arith, top, row, past))
 ]
-  where
-    rows : (n i width : ℕ) → i < n → i * width + width ≤ n * width
-    rows n i width less = grind (arith, less)
 
 -- ---- which shard is lost
 
@@ -172,14 +173,14 @@ module _ (c : Whole) (e : Event) (at : ℕ) (machines : ℕ → Copies Entry) (w
   is_kept : step e at c.core ≡ keep_entries (do_event e (begun e at c.core))
   is_kept = is_end ∙ lost.ends
 
-  x : ℕ
+  abbrev x : ℕ
   x = lost.shard
 
   shape_does : (do_event e (begun e at c.core)).members.shape ≡ c.core.members.shape
   shape_does = ap (λ (z : Sizes). z.shape) (sizes_same (do_event e (begun e at c.core)) (strokes_of (does_acts (begun e at c.core) e)))
 
   low : IsShard c.core.members.shape x
-  low = rw (← shape_does) lost.low
+  low = subst (λ (s : Shape). IsShard s x) shape_does lost.low
 
   k : IsShardInStep x c (machines x)
   k = w.each x low
@@ -188,7 +189,7 @@ module _ (c : Whole) (e : Event) (at : ℕ) (machines : ℕ → Copies Entry) (w
   lead : HasLead (copies_in x k.in_step.sent c.core) (machines x)
   lead = stands_lead (copies_in x k.in_step.sent c.core) (machines x) k.in_step.stands
 
-  l : ℕ
+  abbrev l : ℕ
   l = lead.peer
 
   leads : lead_of x c.core ≡ Some l
@@ -375,7 +376,7 @@ module _ (c : Whole) (e : Event) (at : ℕ) (machines : ℕ → Copies Entry) (w
       where
         done : (b : Bool) → r.empty ≡ b → r.empty ≡ false
         done false i = i
-        done true i = let wrong : Some job.Reset ≡ None = sym (job_old ∙ rw i refl) ∙ none in absurd (cc wrong)
+        done true i = let wrong : Some job.Reset ≡ None = sym (job_old ∙ next_reset (sealed_of lead_q.peer c.core) r i) ∙ none in absurd (cc wrong)
 
         stage : ((machines (home q c.core)).peers q).stage ≡ Following
         stage =

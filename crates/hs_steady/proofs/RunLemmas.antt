@@ -37,11 +37,11 @@ over_steady c f (e ∷ es) over =
 
 pub are_steady : (c : Whole) (es : Events) (machines : ℕ → Copies Entry) → IsWholeInStep c machines → AreSteady c es
 are_steady c [] machines w = λ on. steady c machines w
-are_steady c (e ∷ es) machines w = (λ on. (steady c machines w, steps_steadily c e machines w), go (step e.0 e.1 c.core).ended refl)
+are_steady c (e ∷ es) machines w = (λ on. (steady c machines w, steps_steadily c e machines w), go (step e.0 e.1 c.core).ended refl (λ k. are_steady (step_whole e.0 e.1 c) es k.machines k.keeps))
   where
-    go : (o : Option CoreFault) → (step e.0 e.1 c.core).ended ≡ o → AreSteady (step_whole e.0 e.1 c) es
-    go None on = let k : StaysWhole (step_whole e.0 e.1 c) machines = all_stay c e.0 e.1 machines w on in are_steady (step_whole e.0 e.1 c) es k.machines k.keeps
-    go (Some f) over = over_steady (step_whole e.0 e.1 c) f es over
+    go : (o : Option CoreFault) → (step e.0 e.1 c.core).ended ≡ o → (StaysWhole (step_whole e.0 e.1 c) machines → AreSteady (step_whole e.0 e.1 c) es) → AreSteady (step_whole e.0 e.1 c) es
+    go None on rest = rest (all_stay c e.0 e.1 machines w on)
+    go (Some f) over rest = over_steady (step_whole e.0 e.1 c) f es over
 
 pub opens_steady : (set : Setting) (found : Found) (es : Events) → MayOpenWhole set found → AreSteady (open_whole set found) es
 opens_steady set found es may = go (first_core set found).ended refl

@@ -2,7 +2,7 @@
 use Rattle.std.proofs.Common.{◌≡◌, ◌≢◌, ◌∙◌, ap, sym, subst, refl, inl, inr, ℕ, zero, suc, ◌+◌, ◌-◌, ◌*◌, ◌/◌, ◌<◌, ◌≤◌, ◌==◌, eqb-true, Bool, true, false, if◌then◌else◌, List, [], ◌∷◌, ◌++◌, Option, Some, None, length, map, arith}
 use Rattle.std.proofs.lemmas.Bool.{cases_lt}
 use Rattle.std.proofs.lemmas.List.{get_or_past, length-append}
-use Rattle.std.proofs.Math.Nat.{div-mul-le_self}
+use Rattle.std.proofs.Math.Nat.{div-mul-le_self, mul-le-mul_right}
 use Rattle.std.specs.List.{enumerate_from}
 use Rattle.std.specs.Option.{option_map}
 use Rattle.std.specs.Prelude.{slice_get, take, unwrap_or}
@@ -45,16 +45,18 @@ use Rattle.hs_steady.proofs.PeerLemmas.{appended_is, floor_bad, floor_held, log_
 entry_at : (m k i n : ℕ) (es : List Entry) (entry : Entry) → n ≡ m + i → numbered_entry (take k (enumerate_from m es)) n ≡ Some entry → slice_get (enumerate_from m es) i ≡ Some (n, entry)
 entry_at m zero i n es entry is e = let wrong : None ≡ Some entry = e in absurd (cc wrong)
 entry_at m (suc k) i n [] entry is e = let wrong : None ≡ Some entry = e in absurd (cc wrong)
-entry_at m (suc k) i n (x ∷ es) entry is e = by (m == n) refl e i is
+entry_at m (suc k) i n (x ∷ es) entry is e = by (m == n) refl e i is (λ j on h. entry_at (m + 1) k j n es entry on h)
   where
-    by : (b : Bool) → (m == n) ≡ b → (if b then Some x else numbered_entry (take k (enumerate_from (m + 1) es)) n) ≡ Some entry → (j : ℕ) → n ≡ m + j → slice_get (enumerate_from m (x ∷ es)) j ≡ Some (n, entry)
-    by true f h zero at = let same : x ≡ entry = cc h in let number : m ≡ n = omega (arith, at) in ap (λ y. Some (m, y)) same ∙ ap (λ y. Some (y, entry)) number
-    by true f h (suc j) at = let number : m ≡ n = eqb-true m n f in absurd (omega (arith, at, number))
-    by false f h zero at = let number : m ≡ n = omega (arith, at) in absurd (differs m n f number)
-      where
-        differs : (a b : ℕ) → (a == b) ≡ false → a ≡ b → ⊥
-        differs a b t e = grind arith
-    by false f h (suc j) at = entry_at (m + 1) k j n es entry (omega (arith, at)) h
+    differs : (a b : ℕ) → (a == b) ≡ false → a ≡ b → ⊥
+    differs a b t e = grind arith
+
+    by : (b : Bool) → (m == n) ≡ b → (if b then Some x else numbered_entry (take k (enumerate_from (m + 1) es)) n) ≡ Some entry → (j : ℕ) → n ≡ m + j
+        → ((j : ℕ) → n ≡ m + 1 + j → numbered_entry (take k (enumerate_from (m + 1) es)) n ≡ Some entry → slice_get (enumerate_from (m + 1) es) j ≡ Some (n, entry))
+        → slice_get (enumerate_from m (x ∷ es)) j ≡ Some (n, entry)
+    by true f h zero at rest = let same : x ≡ entry = cc h in let number : m ≡ n = omega (arith, at) in ap (λ y. Some (m, y)) same ∙ ap (λ y. Some (y, entry)) number
+    by true f h (suc j) at rest = let number : m ≡ n = eqb-true m n f in absurd (omega (arith, at, number))
+    by false f h zero at rest = let number : m ≡ n = omega (arith, at) in absurd (differs m n f number)
+    by false f h (suc j) at rest = rest j (omega (arith, at)) h
 
 -- ---- the first job of a peer
 
@@ -137,8 +139,8 @@ home_low shape q low = elim (cases_lt (home_of shape q) shape.shards) [
   | inl inside ↦ inside
   | inr high ↦
       let up : q / shape.copies * shape.copies ≤ q = div-mul-le_self q shape.copies in
-      let rows : shape.shards * shape.copies ≤ q / shape.copies * shape.copies = grind (arith, high) in
-      absurd (omega (arith, low, up, rows))
+      let row : shape.shards * shape.copies ≤ q / shape.copies * shape.copies = mul-le-mul_right shape.copies high in
+      absurd (omega (arith, low, up, row))
 ]
 
 module _ (c : Whole) (machines : ℕ → Copies Entry) (w : IsWholeInStep c machines) where

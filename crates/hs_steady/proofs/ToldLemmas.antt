@@ -360,7 +360,7 @@ module _ (g q : ℕ) (e : Event) (at : ℕ) (c : Whole) (s t : Copies Entry) (k 
       let its = job_there (done.Failed disk) taken in
       let is : told_list c q (taken_report c.core e) ≡ c.lists q = list_told q (done.Failed disk) e c taken in
       let fares : Fares q e c.core (step e at c.core) =
-      subst (λ x. Fares q x c.core (step x at c.core)) (sym (report (done.Failed disk) taken).is) (failed_told g q disk at c.core s k.in_step own (was_going e at c.core on) its.0 its.1 its.2) in
+      subst (λ x. Fares q x c.core (step x at c.core)) (sym (report (done.Failed disk) taken).is) (failed_told g q disk at c.core s k.in_step own (was_going e at c.core on) its.task its.first its.fits) in
       record { log = fares_same is fares; begins = begins_none is }
 
   -- whatever it tells
