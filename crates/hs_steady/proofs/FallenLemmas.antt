@@ -119,7 +119,7 @@ joining_own x q c a =
 -- ---- the last good peer goes down
 
 -- members and groups tell who leads
-lead_by_both : (y : ℕ) (a b : Core) → b.members ≡ a.members → b.groups ≡ a.groups → lead_of y b ≡ lead_of y a
+pub lead_by_both : (y : ℕ) (a b : Core) → b.members ≡ a.members → b.groups ≡ a.groups → lead_of y b ≡ lead_of y a
 lead_by_both y a b members groups = rw (members, groups) refl
 
 -- what is left then of whom the shards' groups told before

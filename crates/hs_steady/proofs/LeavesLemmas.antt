@@ -244,7 +244,7 @@ module _ (q : ℕ) where
       (leaves_both a b (begin_view x c) (leaves_group x (renew c.members) a (λ e. told_sealed c.members (first_peer (group_of x a)) (group_of x a).copies (q - first_peer (group_of x a))))
       (leaves_both b d (begin_view x c) (leaves_quiet b d refl refl refl refl) (leaves_propose x (kind.View (view_of x c.members)) d)))
 
-  leaves_view : (x : ℕ) (c : Core) → Leaves q c (change_view x c)
+  pub leaves_view : (x : ℕ) (c : Core) → Leaves q c (change_view x c)
   leaves_view x c = keeps_if steps_leave (has_good x c.members) (begin_view x) c (leaves_begin_view x)
 
   leaves_rest : (x : ℕ) (c : Core) → Leaves q c (commit_rest x c)

@@ -57,7 +57,7 @@ use Rattle.hs_whole_copies.proofs.FollowEventLemmas.{told_in_step}
 use Rattle.hs_whole_copies.proofs.FollowLemmas.{IsTold, follows_quiet, home_own}
 use Rattle.hs_whole_copies.specs.Copying.{IsNextCopied}
 use Rattle.hs_whole_copies.specs.Whole.{IsShardInStep, IsWholeInStep, is_copying}
-use Rattle.hs_steady.proofs.FallenLemmas.{fallen_groups, fallen_joins, fallen_lead, fallen_members, fallen_rejoin, good_there}
+use Rattle.hs_steady.proofs.FallenLemmas.{fallen_groups, fallen_joins, fallen_lead, fallen_rejoin, good_there, lead_by_both}
 use Rattle.hs_steady.proofs.FaresLemmas.{ByDisk, ByLine, FallsBy, Fares, Left, Off, falls_down, untold_fares}
 use Rattle.hs_steady.proofs.LeavesLemmas.{Leaves, leaves_fall}
 use Rattle.hs_steady.proofs.ListedLemmas.{IsReport, map_job, next_reset, none_taken, report_is}
@@ -138,6 +138,13 @@ before_fall l e at c (ByDisk by is answer) =
     let b : Core = without_job by (begun (event.Report by (done.Failed l)) at c) in
     subst (λ x. IsBeforeFall c (do_event x (begun x at c)) l) (sym is)
     (record { core = note who.Store deed.Nothing (reply.Down l b.progress.event_line) b; is = rw (i.first, i.fits) refl; members = refl; groups = refl; rejoins = refl })
+
+-- a shard's group, and a peer's shard, by what tells of them
+group_by : (g : ℕ) (a b : Core) → b.members.shape ≡ a.members.shape → b.groups ≡ a.groups → group_of g b ≡ group_of g a
+group_by g a b shape groups = rw (shape, groups) refl
+
+home_by : (q : ℕ) (a b : Core) → b.members ≡ a.members → home q b ≡ home q a
+home_by q a b members = ap (λ (m : Members). home_of m.shape q) members
 
 -- it tells nothing of a list
 list_kept : (l q : ℕ) (e : Event) (c : Whole) → FallsBy l e c.core → told_list c q (taken_report c.core e) ≡ c.lists q
@@ -278,13 +285,13 @@ module _ (c : Whole) (e : Event) (at : ℕ) (machines : ℕ → Copies Entry) (w
   y = before.core
 
   told_y : (g : ℕ) → IsTold g c.core → IsTold g before.core
-  told_y g t = (follows_quiet g c.core before.core before.members before.rejoins (ap (λ gs. length gs) before.groups) (rw (before.groups, before.members) refl) t).0
+  told_y g t = (follows_quiet g c.core before.core before.members before.rejoins (ap (λ gs. length gs) before.groups) (group_by g c.core before.core (ap (λ (m : Members). m.shape) before.members) before.groups) t).0
 
   leads_y : lead_of x before.core ≡ Some l
-  leads_y = rw (before.groups, before.members) leads
+  leads_y = lead_by_both x c.core before.core before.members before.groups ∙ leads
 
   own_y : home l before.core ≡ x
-  own_y = rw before.members led.own
+  own_y = home_by l c.core before.core before.members ∙ led.own
 
   lost_y : has_good x (go_down l before.core).members ≡ false
   lost_y = ap (λ (z : Core). has_good x z.members) (sym before.is) ∙ lost.none
@@ -300,7 +307,7 @@ module _ (c : Whole) (e : Event) (at : ℕ) (machines : ℕ → Copies Entry) (w
   shape_is = ap (λ (z : Core). z.members.shape) is_kept ∙ shape_does
 
   group_is : (g : ℕ) → group_of g (step e at c.core) ≡ group_of g c.core
-  group_is g = rw (groups_are, shape_is) refl
+  group_is g = group_by g c.core (step e at c.core) shape_is groups_are
 
   home_is : (q : ℕ) → home q (step e at c.core) ≡ home q c.core
   home_is q = ap (λ (s : Shape). home_of s q) shape_is
@@ -351,11 +358,11 @@ module _ (c : Whole) (e : Event) (at : ℕ) (machines : ℕ → Copies Entry) (w
     leads_now : lead_of (home q c.core) (step e at c.core) ≡ Some lead_q.peer
     leads_now =
         ap (lead_of (home q c.core)) is_kept ∙ ap (lead_of (home q c.core)) before.is
-        ∙ fallen_lead x l before.core (told_y x told_x) own_y leads_y lost_y (home q c.core) lead_q.peer apart (told_y (home q c.core) (told_in_step (home q c.core) c.core (machines (home q c.core)) kq.in_step)) (rw (before.groups, before.members) leads_q)
+        ∙ fallen_lead x l before.core (told_y x told_x) own_y leads_y lost_y (home q c.core) lead_q.peer apart (told_y (home q c.core) (told_in_step (home q c.core) c.core (machines (home q c.core)) kq.in_step)) (lead_by_both (home q c.core) c.core before.core before.members before.groups ∙ leads_q)
 
     rejoin_now : rejoin_of q (step e at c.core) ≡ Some r
     rejoin_now =
-        ap (rejoin_of q) is_kept ∙ ap (rejoin_of q) before.is ∙ fallen_rejoin x l before.core (told_y x told_x) own_y leads_y lost_y q (rw before.members apart)
+        ap (rejoin_of q) is_kept ∙ ap (rejoin_of q) before.is ∙ fallen_rejoin x l before.core (told_y x told_x) own_y leads_y lost_y q (λ i. apart (sym (home_by q c.core before.core before.members) ∙ i))
         ∙ ap (λ (o : List (Option Rejoin)). slice_index_or o q None) before.rejoins ∙ came
 
     joins_now : status_of q (step e at c.core) ≡ Joining
@@ -432,7 +439,7 @@ module _ (c : Whole) (e : Event) (at : ℕ) (machines : ℕ → Copies Entry) (w
         | inl of ↦
             (let now : status_of q (step e at c.core) ≡ Joining = status_other q n ∙ joins in
             let none : rejoin_of q (step e at c.core) ≡ None =
-            ap (rejoin_of q) is_kept ∙ ap (rejoin_of q) before.is ∙ fallen_joins x l before.core (told_y x told_x) own_y leads_y lost_y q (rw before.members of) (ap (λ (m : Members). status q m) (sym after_is) ∙ now) in
+            ap (rejoin_of q) is_kept ∙ ap (rejoin_of q) before.is ∙ fallen_joins x l before.core (told_y x told_x) own_y leads_y lost_y q (home_by q c.core before.core before.members ∙ of) (ap (λ (m : Members). status q m) (sym after_is) ∙ now) in
             by_status Joining now ∙ ap (λ o. added_by (c.adds q) (step_whole e at c).lists Joining o (first_job q (step e at c.core))) none)
         | inr apart ↦ far apart (rejoin_of q c.core) refl
       ]
@@ -442,7 +449,7 @@ module _ (c : Whole) (e : Event) (at : ℕ) (machines : ℕ → Copies Entry) (w
           far apart None came =
               let now : status_of q (step e at c.core) ≡ Joining = status_other q n ∙ joins in
               let none : rejoin_of q (step e at c.core) ≡ None =
-              ap (rejoin_of q) is_kept ∙ ap (rejoin_of q) before.is ∙ fallen_rejoin x l before.core (told_y x told_x) own_y leads_y lost_y q (rw before.members apart)
+              ap (rejoin_of q) is_kept ∙ ap (rejoin_of q) before.is ∙ fallen_rejoin x l before.core (told_y x told_x) own_y leads_y lost_y q (λ i. apart (sym (home_by q c.core before.core before.members) ∙ i))
               ∙ ap (λ (o : List (Option Rejoin)). slice_index_or o q None) before.rejoins ∙ came in
               by_status Joining now ∙ ap (λ o. added_by (c.adds q) (step_whole e at c).lists Joining o (first_job q (step e at c.core))) none
 
