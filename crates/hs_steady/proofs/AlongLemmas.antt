@@ -1,28 +1,26 @@
 -- An event by which the core goes on: what becomes of each peer's log.
-use Rattle.std.proofs.Common.{◌≡◌, ◌≢◌, ◌⊎◌, ◌∙◌, ap, sym, subst, refl, inl, inr, ℕ, ◌≤◌, ◌<◌, Bool, true, false, if◌then◌else◌, [], ◌∷◌, ◌++◌, Option, Some, None, length, arith}
+use Rattle.std.proofs.Common.{◌≡◌, ◌∙◌, ap, sym, refl, inl, inr, ℕ, ◌≤◌, Bool, true, false, [], ◌∷◌, ◌++◌, Option, Some, None, length, arith}
 use Rattle.std.proofs.lemmas.Bool.{cases_lt}
 use Rattle.std.proofs.lemmas.Bool.Decides.{nat_tests}
 use Rattle.std.proofs.lemmas.List.{append-nil, get_or_past}
 use Rattle.std.specs.Option.{option_map, option_map_or}
-use Rattle.std.specs.Prelude.{drop, nat_le, slice_get}
+use Rattle.std.specs.Prelude.{nat_le}
 use Rattle.hs_anatomy.proofs.StepLemmas.{step_is}
 use Rattle.hs_anatomy.specs.Acts.{begun, without_job}
 use Rattle.hs_cluster.specs.PeerLogs.{log_by, log_of_peer}
 use Rattle.hs_cluster.specs.Steady.{GoesAlong, KeepsItsLog, TellsItsLog}
 use Rattle.hs_copies.specs.Machine.{Copies}
 use Rattle.hs_core_copies.proofs.StepsLemmas.{was_going}
-use Rattle.hs_core_copies.proofs.WalkLemmas.{unless_by}
 use Rattle.hs_core_copies.specs.InStep.{IsOf}
 use Rattle.hs_core_words.specs.Asking.{no_peer, not_up}
-use Rattle.hs_core_words.specs.Changing.{note, refuse}
+use Rattle.hs_core_words.specs.Changing.{note}
 use Rattle.hs_core_words.specs.declared.event.Event.{Event}
 use Rattle.hs_core_words.specs.declared.event.Event.TheVariants as event
 use Rattle.hs_core_words.specs.declared.task.Task.{Task}
-use Rattle.hs_core_words.specs.Failing.{go_down}
 use Rattle.hs_core_words.specs.Looking.{first_job, first_task, home, rejoin_of, shape_of, status_of, tasks_of}
 use Rattle.hs_core_words.specs.Reporting.{on_report}
 use Rattle.hs_core_words.specs.State.{Core}
-use Rattle.hs_core_words.specs.Step.{do_event, end_event, step}
+use Rattle.hs_core_words.specs.Step.{do_event, step}
 use Rattle.hs_desk.specs.Answers.{answers}
 use Rattle.hs_desk.specs.declared.done.Done.{Done}
 use Rattle.hs_desk.specs.declared.done.Done.TheVariants as done
@@ -36,7 +34,7 @@ use Rattle.hs_journal.specs.declared.entry.Who.TheVariants as who
 use Rattle.hs_limits.specs.declared.limits.PeerStatus.{PeerStatus}
 use Rattle.hs_limits.specs.declared.limits.PeerStatus.TheVariants.{Down, Good, Joining}
 use Rattle.hs_limits.specs.declared.shape.Shape.{Shape}
-use Rattle.hs_members.specs.Members.{IsMembers, IsPeer, IsShard, home_of, is_down}
+use Rattle.hs_members.specs.Members.{IsPeer, home_of, is_down}
 use Rattle.hs_model.specs.declared.deed.Deed.TheVariants as deed
 use Rattle.hs_model.specs.declared.reply.Reply.{Reply}
 use Rattle.hs_model.specs.declared.reply.Reply.TheVariants as reply

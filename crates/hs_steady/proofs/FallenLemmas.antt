@@ -1,5 +1,5 @@
 -- The last good peer of a shard goes down: what is left of it, and of the others.
-use Rattle.std.proofs.Common.{◌≡◌, ◌≢◌, ◌⊎◌, ◌∙◌, ap, sym, subst, refl, inl, inr, ℕ, zero, suc, ◌+◌, ◌-◌, ◌*◌, ◌/◌, ◌<◌, ◌≤◌, ◌==◌, eqb-true, Bool, true, false, if◌then◌else◌, List, [], ◌∷◌, Option, Some, None, length, arith}
+use Rattle.std.proofs.Common.{◌≡◌, ◌≢◌, ◌⊎◌, ◌∙◌, ap, sym, refl, inl, inr, ℕ, zero, suc, ◌+◌, ◌-◌, ◌*◌, ◌/◌, ◌<◌, ◌≤◌, Bool, true, false, if◌then◌else◌, List, [], ◌∷◌, Option, Some, None, length, arith}
 use Rattle.std.proofs.lemmas.Bool.{cases_eq, cases_lt}
 use Rattle.std.proofs.lemmas.List.{get_or_past, length-set, set_past}
 use Rattle.std.proofs.lemmas.Nat.{div-mul-add}
@@ -12,11 +12,10 @@ use Rattle.hs_copies.proofs.FailLemmas.{good_found}
 use Rattle.hs_copies.proofs.StatusLemmas.{become_here, become_members, become_other}
 use Rattle.hs_copies.specs.Lists.{IsAmong}
 use Rattle.hs_core_copies.proofs.FallLemmas.{IsBegunAnew, anew, down_by, in_peers}
-use Rattle.hs_core_copies.proofs.LeadLemmas.{good_only, lead_is}
+use Rattle.hs_core_copies.proofs.LeadLemmas.{good_only}
 use Rattle.hs_core_copies.proofs.PlaceLemmas.{rejoin_here, rejoin_other}
 use Rattle.hs_core_copies.proofs.ReportLemmas.{same_number}
-use Rattle.hs_core_copies.specs.InStep.{IsOf}
-use Rattle.hs_core_words.specs.Changing.{set_rejoin, set_status, set_tasks}
+use Rattle.hs_core_words.specs.Changing.{set_status, set_tasks}
 use Rattle.hs_core_words.specs.Effects.{commit}
 use Rattle.hs_core_words.specs.Failing.{commit_rest, go_down, leave}
 use Rattle.hs_core_words.specs.Joining.{begin_joining, joining_peers}
@@ -26,8 +25,8 @@ use Rattle.hs_core_words.specs.Views.{begin_view}
 use Rattle.hs_limits.specs.declared.limits.PeerStatus.TheVariants.{Down, Good, Joining}
 use Rattle.hs_limits.specs.declared.shape.Shape.{Shape}
 use Rattle.hs_limits.specs.Shape.{peer_of}
-use Rattle.hs_members.specs.Members.{Members, become, has_good, home_of, is_good_status, is_joining, peers_of, status}
-use Rattle.hs_rejoin.specs.Rejoin.{Rejoin, new_rejoin}
+use Rattle.hs_members.specs.Members.{Members, become, has_good, is_good_status, is_joining, peers_of, status}
+use Rattle.hs_rejoin.specs.Rejoin.{new_rejoin}
 use Rattle.hs_replica.specs.Group.{IsHome, first_peer, is_peer}
 use Rattle.hs_whole_copies.proofs.FollowLemmas.{IsSized, IsTold, home_own, lead_good, status_apart, within}
 use Rattle.hs_steady.proofs.LeavesLemmas.{Leaves, leaves_fall}

@@ -1,11 +1,11 @@
 -- How a peer fares by an event that tells nothing of its list: it is left what it has, or its log is told of no more.
-use Rattle.std.proofs.Common.{◌≡◌, ◌≢◌, ◌⊎◌, ◌∙◌, ap, sym, subst, refl, inl, inr, ℕ, zero, suc, ◌<◌, ◌+◌, ◌-◌, ◌==◌, ◌&&◌, max, not, nat_lt, Bool, true, false, if◌then◌else◌, List, [], ◌∷◌, ◌++◌, Option, Some, None, length}
+use Rattle.std.proofs.Common.{◌≡◌, ◌≢◌, ◌⊎◌, ◌∙◌, ap, sym, subst, refl, inl, inr, ℕ, zero, suc, ◌+◌, ◌-◌, max, not, nat_lt, Bool, true, false, if◌then◌else◌, List, [], ◌∷◌, ◌++◌, Option, Some, None, length}
 use Rattle.std.proofs.lemmas.Bool.{cases_eq}
 use Rattle.std.specs.Option.{option_map, option_map_or}
 use Rattle.std.specs.Prelude.{drop, slice_index_or, slice_set, unwrap_or}
 use Rattle.hs_anatomy.proofs.StepLemmas.{step_is}
 use Rattle.hs_anatomy.specs.Acts.{begun}
-use Rattle.hs_awaiting.specs.Words.{change_if, change_with, ◌▸◌}
+use Rattle.hs_awaiting.specs.Words.{change_if, ◌▸◌}
 use Rattle.hs_copies.proofs.HomeLemmas.{set_other}
 use Rattle.hs_copies.proofs.StatusLemmas.{become_here, become_other}
 use Rattle.hs_copies.specs.Machine.{Copies}
@@ -16,14 +16,14 @@ use Rattle.hs_core_copies.proofs.StepLemmas.{has_peer}
 use Rattle.hs_core_copies.proofs.WalkLemmas.{keeps_begin_line, keeps_commits, keeps_if, keeps_propose_due, keeps_send_rounds, keeps_tell_bytes, message_by, unless_by}
 use Rattle.hs_core_copies.specs.InStep.{IsInStep, IsOf, rejoin_at}
 use Rattle.hs_core_words.specs.Asking.{deliver, lose, no_peer, not_down, not_up, nudge, nudge_good, send_again, send_rounds}
-use Rattle.hs_core_words.specs.Changing.{change_group, change_pool, change_rejoin, note, post, refuse, set_rejoin, set_status, set_tasks}
+use Rattle.hs_core_words.specs.Changing.{change_group, change_pool, change_rejoin, note, post, refuse, set_status, set_tasks}
 use Rattle.hs_core_words.specs.declared.event.Event.{Event}
 use Rattle.hs_core_words.specs.declared.event.Event.TheVariants as event
 use Rattle.hs_core_words.specs.declared.task.Task.{Task}
 use Rattle.hs_core_words.specs.Delivering.{handle, is_new_round, take_copy}
 use Rattle.hs_core_words.specs.Effects.{commit}
 use Rattle.hs_core_words.specs.Entering.{propose_due}
-use Rattle.hs_core_words.specs.Failing.{fail_disk, go_down, leave}
+use Rattle.hs_core_words.specs.Failing.{go_down, leave}
 use Rattle.hs_core_words.specs.Joining.{is_level_with_lead, join, join_if_level, start}
 use Rattle.hs_core_words.specs.Looking.{first_task, group_of, home, lead_of, rejoin_of, status_of, tasks_of}
 use Rattle.hs_core_words.specs.Operating.{begin_line, propose_entry}

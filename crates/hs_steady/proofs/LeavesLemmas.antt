@@ -1,9 +1,8 @@
 -- What an event leaves of a peer that it tells nothing of: how much it has sealed, its jobs, its status, and whether it follows.
-use Rattle.std.proofs.Common.{◌≡◌, ◌≢◌, ◌⊎◌, ◌∙◌, ap, sym, subst, refl, inl, inr, ℕ, zero, suc, ◌+◌, ◌-◌, ◌<◌, ◌≤◌, Bool, true, false, List, [], ◌∷◌, ◌++◌, Option, Some, None, flat_map, length, max, arith}
+use Rattle.std.proofs.Common.{◌≡◌, ◌≢◌, ◌∙◌, ap, sym, refl, inl, inr, ℕ, zero, suc, ◌+◌, ◌-◌, ◌≤◌, Bool, true, false, List, [], ◌∷◌, ◌++◌, Option, Some, None, flat_map, length, max, arith}
 use Rattle.std.proofs.lemmas.Bool.{cases_eq, cases_lt}
 use Rattle.std.proofs.lemmas.List.{append-nil, append_assoc, length-set, set_past}
 use Rattle.std.proofs.lemmas.List.Concat.{flat_map-append}
-use Rattle.std.specs.List.{enumerate_from}
 use Rattle.std.specs.Option.{option_map}
 use Rattle.std.specs.Prelude.{slice_index_or, slice_set, unwrap_or}
 use Rattle.hs_awaiting.specs.Words.{change_if, change_with, each, ◌▸◌}
@@ -26,7 +25,6 @@ use Rattle.hs_entry.specs.declared.entry.Entry.{Entry}
 use Rattle.hs_entry.specs.declared.entry.Entry.TheVariants as kind
 use Rattle.hs_limits.specs.declared.limits.PeerStatus.TheVariants.{Down, Good}
 use Rattle.hs_members.specs.Members.{Members, has_good, is_good_status, status, view_of}
-use Rattle.hs_post.specs.declared.message.Message.{Message}
 use Rattle.hs_rejoin.specs.Rejoin.{Rejoin, follow, new_rejoin}
 use Rattle.hs_replica.specs.declared.replica.Replica.{Replica}
 use Rattle.hs_replica.specs.Group.{Group, change_copy, committed, copy_of, first_peer, hears, is_peer, last_number, lead, lead_takes, no_copy, on_have, proposal, propose, renew, renewal, stamp, take_committed, take_entry, tell_from}

@@ -1,15 +1,14 @@
 -- What an event makes of a peer's list: what its report tells of it, and what has come behind; and what a disk may have behind that.
-use Rattle.std.proofs.Common.{◌≡◌, ◌≢◌, ◌⊎◌, ◌∙◌, ap, sym, subst, refl, inl, inr, ℕ, ◌+◌, ◌-◌, ◌≤◌, ◌==◌, ◌&&◌, eqb-true, Bool, true, false, if◌then◌else◌, List, [], ◌∷◌, ◌++◌, Option, Some, None, length, map, arith}
-use Rattle.std.proofs.lemmas.Bool.{cases_eq}
+use Rattle.std.proofs.Common.{◌≡◌, ◌≢◌, ◌⊎◌, ◌∙◌, ap, sym, refl, inl, inr, ℕ, ◌+◌, ◌-◌, ◌==◌, ◌&&◌, eqb-true, Bool, true, false, if◌then◌else◌, List, [], ◌++◌, Option, Some, None, length, map, arith}
 use Rattle.std.proofs.lemmas.List.{append-nil, length-map}
 use Rattle.std.proofs.lemmas.List.FromFn.{length-enumerate_from}
 use Rattle.std.specs.Option.{option_map, option_map_or}
 use Rattle.std.specs.Prelude.{drop, take, unwrap_or}
 use Rattle.hs_copies.proofs.NewViewLemmas.{good_status}
 use Rattle.hs_copies.proofs.PeerLemmas.{put_cases}
-use Rattle.hs_copies.proofs.StandLemmas.{HasLead, and_right, length_is, stage_good, stands_lead}
+use Rattle.hs_copies.proofs.StandLemmas.{HasLead, length_is, stage_good, stands_lead}
 use Rattle.hs_copies.specs.Lists.{Item}
-use Rattle.hs_copies.specs.Machine.{Copies, Good as GoodStage, Stage, after_events, put_at}
+use Rattle.hs_copies.specs.Machine.{Copies, Good as GoodStage, after_events, put_at}
 use Rattle.hs_copies.specs.Standing.{is_good_stage}
 use Rattle.hs_core_copies.proofs.BesideLemmas.{home_of_peer}
 use Rattle.hs_core_copies.proofs.GoingLemmas.{GoesTold}
@@ -18,7 +17,7 @@ use Rattle.hs_core_copies.proofs.ReportLemmas.{same_number}
 use Rattle.hs_core_copies.proofs.StepLemmas.{lead_in_step}
 use Rattle.hs_core_copies.proofs.StepsLemmas.{steps_tell, was_going}
 use Rattle.hs_core_copies.specs.InStep.{IsOf, copies_in, rejoin_at}
-use Rattle.hs_core_copies.specs.Lists.{is_taken, list_by, lists_told, numbered}
+use Rattle.hs_core_copies.specs.Lists.{list_by, lists_told, numbered}
 use Rattle.hs_core_words.specs.declared.task.Task.{Task}
 use Rattle.hs_core_words.specs.declared.event.Event.{Event}
 use Rattle.hs_core_words.specs.declared.event.Event.TheVariants as event
@@ -36,13 +35,12 @@ use Rattle.hs_events.specs.Whole.{Whole, added_by, grown, reach, reported, step_
 use Rattle.hs_fold.specs.Shards.Setting.{Numbered}
 use Rattle.hs_limits.specs.declared.limits.PeerStatus.{PeerStatus}
 use Rattle.hs_limits.specs.declared.limits.PeerStatus.TheVariants.{Down, Good, Joining}
-use Rattle.hs_members.specs.Members.{home_of, is_good_status}
+use Rattle.hs_members.specs.Members.{is_good_status}
 use Rattle.hs_moments.specs.WholeMachine.{IsFrontOf}
 use Rattle.hs_rejoin.specs.Rejoin.{Rejoin, new_rejoin, next_job}
 use Rattle.hs_replica.specs.Group.{Group, entries_above, length_of}
 use Rattle.hs_whole_copies.proofs.ReportedLemmas.{IsOn}
 use Rattle.hs_whole_copies.specs.Whole.{IsShardInStep, is_copying, longest}
-use Rattle.hs_steady.proofs.PeerLemmas.{adds_good, long_q, reach_good}
 
 -- ---- who reports
 

@@ -1,7 +1,7 @@
 -- An event by which a shard is lost: each list and what a disk may have behind it stay, and no more is sealed.
-use Rattle.std.proofs.Common.{◌≡◌, ◌≢◌, ◌⊎◌, ◌∙◌, ap, sym, subst, refl, inl, inr, ℕ, zero, suc, ◌+◌, ◌-◌, ◌*◌, ◌/◌, ◌<◌, ◌≤◌, ◌==◌, ◌&&◌, not, nat_lt, Bool, true, false, if◌then◌else◌, List, [], ◌∷◌, ◌++◌, Option, Some, None, length, arith}
+use Rattle.std.proofs.Common.{◌≡◌, ◌≢◌, ◌∙◌, ap, sym, subst, refl, inl, inr, ℕ, zero, suc, ◌+◌, ◌-◌, ◌*◌, ◌/◌, ◌<◌, ◌≤◌, ◌==◌, ◌&&◌, not, nat_lt, Bool, true, false, if◌then◌else◌, List, [], ◌∷◌, ◌++◌, Option, Some, None, length, arith}
 use Rattle.std.proofs.lemmas.Bool.{cases_eq, cases_lt}
-use Rattle.std.proofs.lemmas.List.{append-nil, append_assoc, get_or_past}
+use Rattle.std.proofs.lemmas.List.{append-nil, get_or_past}
 use Rattle.std.proofs.Math.Nat.{lt-div-mul-add}
 use Rattle.std.specs.List.{range_with_len}
 use Rattle.std.specs.Option.{option_map}
@@ -15,17 +15,16 @@ use Rattle.hs_anatomy.specs.Sizes.{Sizes}
 use Rattle.hs_copies.proofs.StandLemmas.{HasLead, stands_lead}
 use Rattle.hs_copies.specs.Machine.{Copies, Following}
 use Rattle.hs_copies.specs.Standing.{stage_of}
-use Rattle.hs_core_copies.proofs.LeadLemmas.{IsGoodLead, good_only, lead_is}
+use Rattle.hs_core_copies.proofs.LeadLemmas.{IsGoodLead, lead_is}
 use Rattle.hs_core_copies.proofs.NextLemmas.{first_is_next}
 use Rattle.hs_core_copies.proofs.ReportLemmas.{copy_is, reset_is}
 use Rattle.hs_core_copies.proofs.StepLemmas.{lead_in_step}
-use Rattle.hs_core_copies.specs.InStep.{IsInStep, IsOf, copies_in, rejoin_at}
+use Rattle.hs_core_copies.specs.InStep.{copies_in, rejoin_at}
 use Rattle.hs_core_words.specs.Changing.{note}
 use Rattle.hs_core_words.specs.declared.event.Event.{Event}
 use Rattle.hs_core_words.specs.declared.event.Event.TheVariants as event
 use Rattle.hs_core_words.specs.Failing.{go_down}
 use Rattle.hs_core_words.specs.Looking.{first_job, group_of, home, lead_of, lost_shard, rejoin_of, sealed_of, shape_of, status_of}
-use Rattle.hs_core_words.specs.Reporting.{on_report}
 use Rattle.hs_core_words.specs.State.{Core}
 use Rattle.hs_core_words.specs.Step.{do_event, end_event, keep_entries, refuse_entries, step}
 use Rattle.hs_desk.specs.Answers.{answers}
@@ -39,8 +38,7 @@ use Rattle.hs_entry.specs.declared.entry.Entry.{Entry}
 use Rattle.hs_events.specs.Course.{is_refused}
 use Rattle.hs_events.specs.Due.{is_answer}
 use Rattle.hs_events.specs.Taken.{peer_count}
-use Rattle.hs_events.specs.Whole.{Whole, added_by, copied_entry, counts, floor, grown, reach, reported, step_whole, taken_report, told_list}
-use Rattle.hs_fold.specs.Shards.Setting.{Numbered}
+use Rattle.hs_events.specs.Whole.{Whole, added_by, counts, floor, grown, reported, step_whole, taken_report, told_list}
 use Rattle.hs_journal.specs.declared.entry.Who.TheVariants as who
 use Rattle.hs_limits.specs.declared.limits.PeerStatus.{PeerStatus}
 use Rattle.hs_limits.specs.declared.limits.PeerStatus.TheVariants.{Down, Good, Joining}
@@ -49,9 +47,9 @@ use Rattle.hs_members.specs.Members.{IsPeer, IsShard, Members, has_good, home_of
 use Rattle.hs_model.specs.declared.deed.Deed.TheVariants as deed
 use Rattle.hs_model.specs.declared.reply.Reply.TheVariants as reply
 use Rattle.hs_moments.specs.Moments.{Grows}
-use Rattle.hs_moments.specs.WholeMachine.{IsFrontOf, whole_machine}
+use Rattle.hs_moments.specs.WholeMachine.{whole_machine}
 use Rattle.hs_rejoin.specs.Rejoin.{Rejoin, new_rejoin, next_job}
-use Rattle.hs_replica.specs.Group.{Group, IsHome, copy_of, entries_above, length_of, new_group}
+use Rattle.hs_replica.specs.Group.{Group, copy_of, entries_above, length_of, new_group}
 use Rattle.hs_whole_copies.proofs.CopiedLemmas.{next_copied}
 use Rattle.hs_whole_copies.proofs.FollowEventLemmas.{told_in_step}
 use Rattle.hs_whole_copies.proofs.FollowLemmas.{IsTold, follows_quiet, home_own}
@@ -59,7 +57,7 @@ use Rattle.hs_whole_copies.specs.Copying.{IsNextCopied}
 use Rattle.hs_whole_copies.specs.Whole.{IsShardInStep, IsWholeInStep, is_copying}
 use Rattle.hs_steady.proofs.FallenLemmas.{fallen_groups, fallen_joins, fallen_lead, fallen_rejoin, good_there, lead_by_both}
 use Rattle.hs_steady.proofs.FaresLemmas.{ByDisk, ByLine, FallsBy, Fares, Left, Off, falls_down, untold_fares}
-use Rattle.hs_steady.proofs.LeavesLemmas.{Leaves, leaves_fall}
+use Rattle.hs_steady.proofs.LeavesLemmas.{leaves_fall}
 use Rattle.hs_steady.proofs.ListedLemmas.{IsReport, map_job, next_reset, none_taken, report_is}
 use Rattle.hs_steady.proofs.PeerLemmas.{adds_good, adds_none, floor_bad, home_q, long_q}
 use Rattle.hs_steady.proofs.QueueLemmas.{IsAnswered, first_job_by, job_answered}

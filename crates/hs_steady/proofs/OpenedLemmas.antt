@@ -1,11 +1,10 @@
 -- As a store opens each good peer's log has the list that its shard opens with, and nothing waits there.
-use Rattle.std.proofs.Common.{◌≡◌, ◌≢◌, ◌∙◌, ap, sym, subst, refl, inl, inr, ℕ, ◌+◌, ◌-◌, ◌*◌, ◌/◌, ◌<◌, ◌≤◌, not, Bool, true, false, if◌then◌else◌, List, [], ◌∷◌, ◌++◌, Option, Some, None, flat_map, length, arith}
+use Rattle.std.proofs.Common.{◌≡◌, ◌∙◌, ap, sym, subst, refl, inl, inr, ℕ, ◌+◌, ◌-◌, ◌*◌, ◌/◌, ◌<◌, ◌≤◌, not, Bool, true, false, if◌then◌else◌, List, [], ◌++◌, Option, Some, None, flat_map, length, arith}
 use Rattle.std.proofs.Math.ListN.{get_or-map}
 use Rattle.std.proofs.Math.Nat.{div-mul-le_self, lt-div-mul-add}
 use Rattle.std.proofs.lemmas.Bool.{cases_lt}
 use Rattle.std.proofs.lemmas.List.{get_or-drop, get_or-replicate, get_or-take, get_or_past, take_at}
 use Rattle.std.proofs.lemmas.List.FromFn.{get_or-map-range_with_len, length-enumerate_from}
-use Rattle.std.specs.List.{enumerate_from}
 use Rattle.std.specs.Prelude.{drop, slice_index, slice_index_or, take}
 use Rattle.hs_awaiting.specs.Words.{each}
 use Rattle.hs_cluster.proofs.PeerLogLemmas.{log_fine}
@@ -15,7 +14,7 @@ use Rattle.hs_copies.specs.Machine.{Copies}
 use Rattle.hs_core_copies.proofs.WalkLemmas.{keeps_each, keeps_if}
 use Rattle.hs_core_copies.specs.Jobs.{tasks_for}
 use Rattle.hs_core_words.specs.Changing.{note}
-use Rattle.hs_core_words.specs.Looking.{group_of, home, sealed_of, shape_of, shards_of, status_of, tasks_of}
+use Rattle.hs_core_words.specs.Looking.{group_of, home, sealed_of, shape_of, shards_of, status_of}
 use Rattle.hs_core_words.specs.Opening.{Taken, begin_views, good_copies, new_core, note_down, note_if_down, taken_group}
 use Rattle.hs_core_words.specs.State.{Core}
 use Rattle.hs_core_words.specs.Step.{end_event}
@@ -25,24 +24,21 @@ use Rattle.hs_entry.specs.Entries.{rank_of}
 use Rattle.hs_events.specs.Found.{Found, first_core, opened_list, opens_with, starts_good}
 use Rattle.hs_events.specs.Sane.{IsFromOne, appended_of}
 use Rattle.hs_events.specs.Taken.{peer_count}
-use Rattle.hs_events.specs.Whole.{Whole, counts, floor, grown, open_whole, reach}
+use Rattle.hs_events.specs.Whole.{counts, grown, open_whole, reach}
 use Rattle.hs_fold.specs.Shards.Setting.{Numbered, Setting}
 use Rattle.hs_journal.specs.declared.entry.Who.TheVariants as who
-use Rattle.hs_limits.specs.declared.limits.PeerStatus.{PeerStatus}
 use Rattle.hs_limits.specs.declared.limits.PeerStatus.TheVariants.{Down, Good, Joining}
 use Rattle.hs_limits.specs.declared.shape.Shape.{Shape}
 use Rattle.hs_limits.specs.Shape.{peer_of}
-use Rattle.hs_members.specs.Members.{IsPeer, IsShard, Members, all_peers, home_of, is_good_status}
+use Rattle.hs_members.specs.Members.{IsPeer, IsShard, all_peers, home_of, is_good_status}
 use Rattle.hs_model.specs.declared.deed.Deed.TheVariants as deed
 use Rattle.hs_model.specs.declared.reply.Reply.TheVariants as reply
 use Rattle.hs_moments.proofs.WorkLemmas.{last_is}
-use Rattle.hs_peerlog.specs.Heads.{LeavesHeader}
 use Rattle.hs_peerlog.specs.Lists.{Keeping}
-use Rattle.hs_ports.specs.Moments.{disk_at}
 use Rattle.hs_replica.specs.declared.replica.Replica.{Replica}
 use Rattle.hs_replica.specs.Group.{Group, copy_of, entries_above, length_of, new_group, no_copy, whole_copy}
 use Rattle.hs_side.specs.Headers.{own_header}
-use Rattle.hs_taking.specs.Disks.{DiskSeen, stands_of}
+use Rattle.hs_taking.specs.Disks.{DiskSeen}
 use Rattle.hs_whole_copies.proofs.OpenLemmas.{opens_whole}
 use Rattle.hs_whole_copies.specs.Opening.{MayOpenWhole}
 use Rattle.hs_whole_copies.specs.Whole.{IsShardInStep, IsWholeInStep}
@@ -144,8 +140,7 @@ module _ (set : Setting) (found : Found) (may : MayOpenWhole set found) (on : (f
     list_is =
         let h : ℕ = home q (first_core set found) in
         let x : Group = group_of h (first_core set found) in
-        let same : opened_list set found (home q (first_core set found)) ≡ opened_list set found (home_of set.shape q) = ap (λ (s : Shape). opened_list set found (home_of s q)) shape_is in
-        (
+        let same : opened_list set found (home q (first_core set found)) ≡ opened_list set found (home_of set.shape q) = ap (λ (s : Shape). opened_list set found (home_of s q)) shape_is in (
           take (length_of x q - length (opened_list set found (home_of set.shape q))) (entries_above (length (opened_list set found (home_of set.shape q))) x),
           ap (λ b. if b then grown (group_of (home q (first_core set found)) (first_core set found)) q (opened_list set found (home q (first_core set found))) else []) starts ∙ ap (grown x q) same,
         )

@@ -1,8 +1,7 @@
 -- A peer of a shard that is in step: what its log has, its list, and what its first job asks for.
-use Rattle.std.proofs.Common.{◌≡◌, ◌≢◌, ◌⊎◌, ◌∙◌, ap, sym, subst, refl, inl, inr, ℕ, zero, suc, ◌+◌, ◌-◌, ◌≤◌, Bool, true, false, if◌then◌else◌, List, [], ◌∷◌, ◌++◌, Option, Some, None, length, map, arith}
+use Rattle.std.proofs.Common.{◌≡◌, ◌≢◌, ◌∙◌, ap, sym, refl, inl, inr, ℕ, zero, suc, ◌+◌, ◌-◌, ◌≤◌, Bool, true, false, if◌then◌else◌, List, [], ◌∷◌, ◌++◌, Option, Some, None, length, map, arith}
 use Rattle.std.proofs.lemmas.List.{append-nil, append_cancel_left, length-map}
 use Rattle.std.proofs.lemmas.List.FromFn.{length-enumerate_from}
-use Rattle.std.specs.List.{enumerate_from}
 use Rattle.std.specs.Option.{option_map}
 use Rattle.std.specs.Prelude.{drop, slice_get, take, unwrap_or}
 use Rattle.hs_cluster.specs.PeerLogs.{log_by, log_of_peer}
@@ -18,8 +17,7 @@ use Rattle.hs_core_copies.proofs.UnsealedLemmas.{IsFirst, IsHeld, between_first}
 use Rattle.hs_core_copies.specs.InStep.{IsOf, copies_in, rejoin_at}
 use Rattle.hs_core_copies.specs.Jobs.{unsealed}
 use Rattle.hs_core_copies.specs.Lists.{numbered}
-use Rattle.hs_core_words.specs.Looking.{first_job, group_of, home, rejoin_of, sealed_of, status_of}
-use Rattle.hs_core_words.specs.State.{Core}
+use Rattle.hs_core_words.specs.Looking.{first_job, group_of, rejoin_of, sealed_of, status_of}
 use Rattle.hs_desk.specs.declared.job.Job.{Job}
 use Rattle.hs_desk.specs.declared.job.Job.TheVariants as job
 use Rattle.hs_entry.specs.declared.entry.Entry.{Entry}
@@ -31,7 +29,7 @@ use Rattle.hs_limits.specs.declared.limits.PeerStatus.TheVariants.{Down, Good, J
 use Rattle.hs_members.specs.Members.{is_good_status}
 use Rattle.hs_moments.specs.Working.{IsNextEntry}
 use Rattle.hs_rejoin.specs.Rejoin.{Rejoin, new_rejoin}
-use Rattle.hs_replica.specs.Group.{Group, IsHome, copy_of, entries_above, length_of}
+use Rattle.hs_replica.specs.Group.{IsHome, copy_of, entries_above, length_of}
 use Rattle.hs_whole_copies.proofs.ReachLemmas.{copies_not}
 use Rattle.hs_whole_copies.proofs.ReportedLemmas.{IsOn}
 use Rattle.hs_whole_copies.specs.Whole.{IsShardInStep, added_to, is_copying, longest}

@@ -1,5 +1,5 @@
 -- The queue of a good peer of a shard that is in step: what its first job tells, and what is first behind more jobs.
-use Rattle.std.proofs.Common.{◌≡◌, ◌≢◌, ◌⊎◌, ◌∙◌, ap, sym, subst, refl, inl, inr, ℕ, ◌+◌, ◌≤◌, Bool, true, false, if◌then◌else◌, List, [], ◌∷◌, ◌++◌, Option, Some, None, flat_map, length, arith}
+use Rattle.std.proofs.Common.{◌≡◌, ◌∙◌, ap, sym, refl, inl, inr, ℕ, ◌+◌, ◌≤◌, true, false, if◌then◌else◌, List, [], ◌∷◌, ◌++◌, Option, Some, None, flat_map, length}
 use Rattle.std.proofs.lemmas.List.{drop-append-le}
 use Rattle.std.proofs.lemmas.List.Concat.{flat_map-append}
 use Rattle.std.specs.Option.{option_map, option_map_or}
@@ -23,7 +23,6 @@ use Rattle.hs_events.specs.Sane.{appended_of}
 use Rattle.hs_fold.specs.Shards.Setting.{Numbered}
 use Rattle.hs_limits.specs.declared.limits.PeerStatus.TheVariants.{Good, Joining}
 use Rattle.hs_members.specs.Members.{is_joining}
-use Rattle.hs_rejoin.specs.Rejoin.{next_job}
 
 -- ---- first jobs
 

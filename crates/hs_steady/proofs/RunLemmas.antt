@@ -1,5 +1,5 @@
 -- A store in step is steady along any events, and so is one that opens.
-use Rattle.std.proofs.Common.{◌≡◌, ◌∙◌, ap, sym, ℕ, List, [], ◌∷◌, Option, Some, None, is_none}
+use Rattle.std.proofs.Common.{◌≡◌, ◌∙◌, ap, sym, refl, ℕ, [], ◌∷◌, Option, Some, None, is_none}
 use Rattle.hs_awaiting.specs.Words.{change_if}
 use Rattle.hs_cluster.specs.Steady.{AreSteady, StepsSteadily}
 use Rattle.hs_copies.specs.Machine.{Copies}

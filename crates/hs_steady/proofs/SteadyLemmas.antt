@@ -1,14 +1,13 @@
 -- Each first job of a store in step asks for what is next.
-use Rattle.std.proofs.Common.{◌≡◌, ◌≢◌, ◌∙◌, ap, sym, subst, refl, inl, inr, ℕ, zero, suc, ◌+◌, ◌-◌, ◌*◌, ◌/◌, ◌<◌, ◌≤◌, ◌==◌, eqb-true, Bool, true, false, if◌then◌else◌, List, [], ◌∷◌, ◌++◌, Option, Some, None, length, map, arith}
+use Rattle.std.proofs.Common.{◌≡◌, ◌∙◌, ap, sym, subst, refl, inl, inr, ℕ, zero, suc, ◌+◌, ◌-◌, ◌*◌, ◌/◌, ◌≤◌, ◌==◌, eqb-true, Bool, true, false, if◌then◌else◌, List, [], ◌∷◌, ◌++◌, Option, Some, None, length, map, arith}
 use Rattle.std.proofs.lemmas.Bool.{cases_lt}
 use Rattle.std.proofs.lemmas.List.{get_or_past, length-append}
 use Rattle.std.proofs.Math.Nat.{div-mul-le_self, mul-le-mul_right}
 use Rattle.std.specs.List.{enumerate_from}
 use Rattle.std.specs.Option.{option_map}
-use Rattle.std.specs.Prelude.{slice_get, take, unwrap_or}
-use Rattle.hs_cluster.specs.PeerLogs.{log_of_peer}
+use Rattle.std.specs.Prelude.{slice_get, take}
 use Rattle.hs_cluster.specs.Sealed.{sealed_front}
-use Rattle.hs_cluster.specs.Steady.{AsksFor, IsNextCopy, IsNextOwn, IsSteady}
+use Rattle.hs_cluster.specs.Steady.{AsksFor, IsNextCopy, IsSteady}
 use Rattle.hs_copies.specs.Lists.{Item}
 use Rattle.hs_copies.specs.Machine.{Copies}
 use Rattle.hs_core_copies.proofs.BesideLemmas.{home_of_peer}
@@ -20,20 +19,16 @@ use Rattle.hs_core_copies.proofs.StepLemmas.{has_peer}
 use Rattle.hs_core_copies.specs.InStep.{IsOf}
 use Rattle.hs_core_copies.specs.Jobs.{unsealed}
 use Rattle.hs_core_words.specs.declared.task.Task.{Task}
-use Rattle.hs_core_words.specs.Looking.{first_job, first_task, group_of, home, lead_of, rejoin_of, sealed_of, shape_of, status_of}
-use Rattle.hs_core_words.specs.State.{Core}
+use Rattle.hs_core_words.specs.Looking.{first_job, first_task, group_of, home, lead_of, sealed_of, shape_of, status_of}
 use Rattle.hs_desk.specs.declared.job.Job.{Job}
 use Rattle.hs_desk.specs.declared.job.Job.TheVariants as job
 use Rattle.hs_entry.specs.declared.entry.Entry.{Entry}
-use Rattle.hs_events.specs.Sane.{appended_of}
 use Rattle.hs_events.specs.Taken.{peer_count}
 use Rattle.hs_events.specs.Whole.{Whole, floor, reach}
 use Rattle.hs_limits.specs.declared.limits.PeerStatus.TheVariants.{Down, Good, Joining}
 use Rattle.hs_limits.specs.declared.shape.Shape.{Shape}
 use Rattle.hs_members.specs.Members.{IsPeer, IsShard, home_of, is_good_status}
 use Rattle.hs_peerlog.specs.Lists.{numbered_entry}
-use Rattle.hs_rejoin.specs.Rejoin.{Rejoin}
-use Rattle.hs_replica.specs.Group.{Group}
 use Rattle.hs_whole_copies.proofs.CopiedLemmas.{next_copied}
 use Rattle.hs_whole_copies.specs.Copying.{IsNextCopied}
 use Rattle.hs_whole_copies.specs.Whole.{IsShardInStep, IsWholeInStep}

@@ -1,5 +1,5 @@
 -- What a report of a peer that is taken leaves of it.
-use Rattle.std.proofs.Common.{◌≡◌, ◌≢◌, ◌⊎◌, ◌∙◌, ap, sym, subst, refl, inl, inr, ℕ, ◌<◌, ◌≤◌, Bool, true, false, List, [], Option, Some, None, length, arith}
+use Rattle.std.proofs.Common.{◌≡◌, ◌∙◌, ap, sym, subst, refl, inl, inr, ℕ, ◌<◌, Bool, true, false, [], Option, Some, None, length}
 use Rattle.std.specs.Option.{option_map, option_map_or}
 use Rattle.std.specs.Prelude.{drop, if◌then◌else◌, max, slice_index_or, ◌++◌, ◌-◌, ◌∷◌}
 use Rattle.hs_anatomy.proofs.StepLemmas.{step_is}
@@ -13,7 +13,7 @@ use Rattle.hs_core_copies.proofs.ReportLemmas.{found, queued_disk}
 use Rattle.hs_core_copies.proofs.StepLemmas.{has_group, has_tasks}
 use Rattle.hs_core_copies.proofs.WalkLemmas.{keeps_commits, keeps_tell_bytes}
 use Rattle.hs_core_copies.specs.InStep.{IsInStep, IsOf}
-use Rattle.hs_core_words.specs.Changing.{change_group, change_rejoin, note, post, set_tasks}
+use Rattle.hs_core_words.specs.Changing.{change_group, change_rejoin, note, post}
 use Rattle.hs_core_words.specs.declared.event.Event.{Event}
 use Rattle.hs_core_words.specs.declared.event.Event.TheVariants as event
 use Rattle.hs_core_words.specs.declared.task.Task.{Task}
@@ -23,7 +23,7 @@ use Rattle.hs_core_words.specs.Joining.{is_level_with_lead, join, join_if_level}
 use Rattle.hs_core_words.specs.Looking.{first_task, group_of, home, sealed_of, status_of, tasks_of}
 use Rattle.hs_core_words.specs.Reporting.{on_report, take_report}
 use Rattle.hs_core_words.specs.State.{Core}
-use Rattle.hs_core_words.specs.Step.{do_event, end_event, step}
+use Rattle.hs_core_words.specs.Step.{end_event, step}
 use Rattle.hs_desk.specs.Answers.{answers}
 use Rattle.hs_desk.specs.declared.done.Done.{Done}
 use Rattle.hs_desk.specs.declared.done.Done.TheVariants as done

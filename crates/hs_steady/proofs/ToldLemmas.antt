@@ -1,12 +1,11 @@
 -- What the log of a peer has behind an event, and what waits there.
-use Rattle.std.proofs.Common.{◌≡◌, ◌≢◌, ◌⊎◌, ◌∙◌, ap, sym, subst, refl, inl, inr, ℕ, ◌+◌, ◌-◌, ◌≤◌, Bool, true, false, if◌then◌else◌, List, [], ◌∷◌, ◌++◌, Option, Some, None, flat_map, length, arith}
-use Rattle.std.proofs.lemmas.List.{append-nil, length-append, length-drop, take-append-le, take_at}
-use Rattle.std.specs.Option.{option_map, option_map_or}
-use Rattle.std.specs.Prelude.{drop, slice_get, take}
+use Rattle.std.proofs.Common.{◌≡◌, ◌≢◌, ◌∙◌, ap, sym, subst, refl, inl, inr, ℕ, ◌+◌, ◌-◌, ◌≤◌, true, false, List, [], ◌∷◌, ◌++◌, Some, None, flat_map, length, arith}
+use Rattle.std.proofs.lemmas.List.{length-append, length-drop, take-append-le, take_at}
+use Rattle.std.specs.Prelude.{drop, take}
 use Rattle.hs_cluster.proofs.HeldLemmas.{append_is, read_is, seal_is}
 use Rattle.hs_cluster.specs.PeerLogs.{log_of_peer}
 use Rattle.hs_cluster.specs.Sealed.{sealed_front}
-use Rattle.hs_cluster.specs.Steady.{KeepsItsLog, LogTold, TellsItsLog}
+use Rattle.hs_cluster.specs.Steady.{KeepsItsLog, TellsItsLog}
 use Rattle.hs_copies.specs.Machine.{Copies}
 use Rattle.hs_core_copies.proofs.NextLemmas.{first_is_next}
 use Rattle.hs_core_copies.proofs.ReportLemmas.{copy_is, reset_is}
@@ -16,7 +15,7 @@ use Rattle.hs_core_copies.specs.Jobs.{seal_of, tasks_for, unsealed}
 use Rattle.hs_core_words.specs.declared.event.Event.{Event}
 use Rattle.hs_core_words.specs.declared.event.Event.TheVariants as event
 use Rattle.hs_core_words.specs.declared.task.Task.{Task}
-use Rattle.hs_core_words.specs.Looking.{first_job, first_task, group_of, home, sealed_of, status_of, tasks_of}
+use Rattle.hs_core_words.specs.Looking.{first_job, group_of, sealed_of, status_of, tasks_of}
 use Rattle.hs_core_words.specs.State.{Core}
 use Rattle.hs_core_words.specs.Step.{step}
 use Rattle.hs_desk.specs.Answers.{answers, is_reclaim}
@@ -25,9 +24,8 @@ use Rattle.hs_desk.specs.declared.done.Done.TheVariants as done
 use Rattle.hs_desk.specs.declared.job.Job.{Job}
 use Rattle.hs_desk.specs.declared.job.Job.TheVariants as job
 use Rattle.hs_entry.specs.declared.entry.Entry.{Entry}
-use Rattle.hs_events.specs.Due.{is_answer}
 use Rattle.hs_events.specs.Sane.{appended_of}
-use Rattle.hs_events.specs.Whole.{Whole, added_by, floor, reach, step_whole, taken_report, told_list}
+use Rattle.hs_events.specs.Whole.{Whole, floor, reach, step_whole, taken_report, told_list}
 use Rattle.hs_fold.specs.Shards.Setting.{Numbered}
 use Rattle.hs_limits.specs.declared.limits.PeerStatus.{PeerStatus}
 use Rattle.hs_limits.specs.declared.limits.PeerStatus.TheVariants.{Good, Joining}
@@ -39,7 +37,7 @@ use Rattle.hs_whole_copies.specs.Whole.{IsShardInStep}
 use Rattle.hs_steady.proofs.FaresLemmas.{Fares, Left, Off, untold_fares}
 use Rattle.hs_steady.proofs.LeavesLemmas.{Leaves, LeavesWork}
 use Rattle.hs_steady.proofs.ListedLemmas.{IsReport, IsUntold, all_told, begins_off, front_told, list_told, list_untold, none_taken, report_is}
-use Rattle.hs_steady.proofs.PeerLemmas.{FollowsOn, IsGood, IsOff, LogSeen, adds_good, appended_is, floor_good, log_good, log_seen, none_appended, number_is, reach_good, rest_is, sealed_held}
+use Rattle.hs_steady.proofs.PeerLemmas.{FollowsOn, IsGood, IsOff, LogSeen, appended_is, floor_good, log_good, log_seen, none_appended, number_is, reach_good, rest_is, sealed_held}
 use Rattle.hs_steady.proofs.QueueLemmas.{IsAnswered, ToAppend, ToRead, ToSeal, first_job_by, first_queued, job_answered, more_none, none_by, queue_none, same_next, to_append, to_read, to_seal}
 use Rattle.hs_steady.proofs.TakenLemmas.{TellsWork, failed_told, sealed_copied, sealed_emptied, sealed_sealed, told_of, told_tasks, work_told}
 use Rattle.hs_steady.proofs.TakenLemmas.{list_told as list_work}
@@ -211,9 +209,9 @@ module _ (g q : ℕ) (e : Event) (at : ℕ) (c : Whole) (s t : Copies Entry) (k 
   stored : (number : ℕ) → taken_report c.core e ≡ Some (q, done.Stored number) → TellsItsLog c (step_whole e at c) q (done.Stored number)
   stored number taken = record {
     log = λ list there. (
-        log_good c q u.good ∙ ap Some (sym (same_front is l.work.sealed u.good good) ∙ by_log (done.Stored number) taken list there good),
-        λ entry f. waits ∙ ap Some (same entry f),
-      );
+      log_good c q u.good ∙ ap Some (sym (same_front is l.work.sealed u.good good) ∙ by_log (done.Stored number) taken list there good),
+      λ entry f. waits ∙ ap Some (same entry f),
+    );
     begins = some_log (done.Stored number) taken good;
   }
     where
@@ -250,10 +248,10 @@ module _ (g q : ℕ) (e : Event) (at : ℕ) (c : Whole) (s t : Copies Entry) (k 
   sealed : (number : ℕ) → taken_report c.core e ≡ Some (q, done.Sealed number) → TellsItsLog c (step_whole e at c) q (done.Sealed number)
   sealed number taken = record {
     log = λ list there. (
-        sym (by_log (done.Sealed number) taken list there good) ∙ front_same number (floor_good (step_whole e at c) q good ∙ count) good (c.lists q) grown.0 grown.1 low
-            ∙ ap (take number) (sym (reach_good g q c s k own u.good)),
-        more_none q (step e at c.core) u.others u.rest l.work.queue good u.jobs tasks,
-      );
+      sym (by_log (done.Sealed number) taken list there good) ∙ front_same number (floor_good (step_whole e at c) q good ∙ count) good (c.lists q) grown.0 grown.1 low
+          ∙ ap (take number) (sym (reach_good g q c s k own u.good)),
+      more_none q (step e at c.core) u.others u.rest l.work.queue good u.jobs tasks,
+    );
     begins = some_log (done.Sealed number) taken good;
   }
     where
