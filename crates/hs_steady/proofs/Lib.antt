@@ -1,0 +1,14 @@
+pub mod AlongLemmas
+pub mod FallenLemmas
+pub mod FaresLemmas
+pub mod LeavesLemmas
+pub mod ListedLemmas
+pub mod LostLemmas
+pub mod OpenedLemmas
+pub mod PeerLemmas
+pub mod QueueLemmas
+pub mod RunLemmas
+pub mod ShowLemmas
+pub mod SteadyLemmas
+pub mod TakenLemmas
+pub mod ToldLemmas

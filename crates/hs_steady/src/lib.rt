@@ -1,0 +1,10 @@
+//! A core beside its whole lists owes nothing to those who do its jobs: laws, each a function without parameters whose clauses are the law.
+#![tactic(auto)]
+
+mod lists;
+mod opening;
+mod steady;
+
+pub use lists::a_store_in_step_shows_its_lists;
+pub use opening::what_opens_keeps_its_peers;
+pub use steady::{a_store_goes_on_steadily, each_event_is_steady, what_is_whole_in_step_is_steady};
