@@ -13,6 +13,7 @@ use Rattle.hs_events.specs.Found.{first_core}
 use Rattle.hs_promise.specs.Answers.{Answers}
 use Rattle.hs_promise.specs.Causes.{FullCause}
 use Rattle.hs_promise.specs.Entry.{IsSoundAtEntry, MayStop, entry_store}
+use Rattle.hs_promise.specs.Headers.{KeepsHeaders}
 use Rattle.hs_promise.specs.Run.{Ran, Script}
 use Rattle.hs_promise.specs.Stops.{Stops}
 use Rattle.hs_promise.specs.Story.{Story}
@@ -48,13 +49,13 @@ module _ (laws : LawsHere) (coming : ComingLaws) (reads : ReadsBlocks) (S : Scri
 
 -- ---- a stop
 
-pub told_stops : StopLaws → FoldsInMemory → ReadsBlocks → (S : Script) (r : Ran) → IsToldRun S r → MayStop S r → Stops S (entry_store S r) r
-told_stops laws memory reads S r run may = by_how run.how run.shown
+pub told_stops : StopLaws → FoldsInMemory → ReadsBlocks → (S : Script) (r : Ran) → IsToldRun S r → KeepsHeaders S r → MayStop S r → Stops S (entry_store S r) r
+told_stops laws memory reads S r run keeps may = by_how run.how run.shown
   where
     by_how : (how : Option Story) → ShownAs S r how → Stops S (entry_store S r) r
-    by_how None unopened = never_stops S r run.on unopened may
+    by_how None unopened = never_stops S r run.on unopened may keeps
     by_how (Some story) shown = by_end (first_core S.set story.found).ended refl
       where
         by_end : (o : Option CoreFault) → (first_core S.set story.found).ended ≡ o → Stops S (entry_store S r) r
-        by_end None going = may_stop laws S r story shown.went (asked_of memory reads S r story run.on may.sound shown going) shown may
-        by_end (Some fault) ended = ended_stops S r story run.on shown.went fault ended shown may
+        by_end None going = may_stop laws S r story shown.went (asked_of memory reads S r story run.on may.sound shown going) shown may keeps
+        by_end (Some fault) ended = ended_stops S r story run.on shown.went fault ended shown may keeps

@@ -29,6 +29,7 @@ use Rattle.hs_journal.specs.Order.{IsOrdered}
 use Rattle.hs_model.specs.declared.course.CourseItem.{CourseItem}
 use Rattle.hs_model.specs.Store.{Store}
 use Rattle.hs_ports.specs.Objects.{IsDuring}
+use Rattle.hs_fold.specs.Images.{image_at}
 use Rattle.hs_promise.specs.Answers.{Answers}
 use Rattle.hs_promise.specs.Causes.{FullCause}
 use Rattle.hs_promise.specs.declared.status.Status.{Status}
@@ -36,6 +37,7 @@ use Rattle.hs_promise.specs.Ending.{ending_of}
 use Rattle.hs_promise.specs.Entry.{MayStop, counted_course, entry_store}
 use Rattle.hs_promise.specs.Lines.{AreLines}
 use Rattle.hs_promise.specs.Machine.{Went, opening_is_whole}
+use Rattle.hs_promise.specs.Headers.{KeepsHeaders}
 use Rattle.hs_promise.specs.Run.{Ran, Script}
 use Rattle.hs_promise.specs.Stops.{Stops}
 use Rattle.hs_promise.specs.Story.{Story, all_events, last_core}
@@ -156,8 +158,9 @@ module _ (S : Script) (r : Ran) (story : Story) (on : OnDisks S r) (went : Went 
       | inr own ↦ subst (λ (course : List CourseItem). IsBegun course line m) own h
     ]
 
-    pub ended_stops : Stops S (entry_store S r) r
-    ended_stops = record {
+    pub ended_stops : KeepsHeaders S r → Stops S (entry_store S r) r
+    ended_stops keeps = record {
       logs = λ m peer during images low good. rest_logs S r on may journal_notes m during (rested m during) images peer low good;
+      headed = λ m peer during own images good. keeps.each m peer during own (image_at images peer) good.left;
       reopens = λ m during images good. rest_reopens S r on may journal_notes m during (rested m during) (begun m) images good;
     }

@@ -35,6 +35,7 @@ use Rattle.hs_ports.specs.Objects.{IsDuring}
 use Rattle.hs_promise.specs.Ending.{ending_of}
 use Rattle.hs_promise.specs.Entry.{MayStop, counted_course, entry_logs, entry_store, still_counts}
 use Rattle.hs_promise.specs.Machine.{Went}
+use Rattle.hs_promise.specs.Headers.{KeepsHeaders}
 use Rattle.hs_promise.specs.Run.{Ran, Script}
 use Rattle.hs_promise.specs.Stops.{Reopens as ReopensAt, Stops, stop_at}
 use Rattle.hs_promise.specs.Story.{Story, all_events}
@@ -139,5 +140,5 @@ module _ (laws : StopLaws) (S : Script) (r : Ran) (story : Story) (went : Went S
         (laws.reopens (start_of S r) (stop_at S r m) (open_whole S.set story.found) (all_events story) r.journal images asked.on.shape asked.on.one asked.on.left
         (laws.runs (start_of S r) story.found opens) (laws.first (start_of S r) (stop_at S r m) story.found opens) (all_kept laws.coming S r story went asked) inside (at_each m d) good)
 
-    pub may_stop : Stops S (entry_store S r) r
-    may_stop = record { logs = log_of; reopens = reopen_at }
+    pub may_stop : KeepsHeaders S r → Stops S (entry_store S r) r
+    may_stop keeps = record { logs = log_of; headed = λ m peer during own images good. keeps.each m peer during own (image_at images peer) good.left; reopens = reopen_at }

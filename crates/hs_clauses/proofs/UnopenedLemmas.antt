@@ -13,10 +13,12 @@ use Rattle.hs_model.specs.declared.command.Command.{Command}
 use Rattle.hs_model.specs.declared.course.CourseItem.{CourseItem}
 use Rattle.hs_model.specs.Store.{Store}
 use Rattle.hs_ports.specs.Objects.{IsDuring}
+use Rattle.hs_fold.specs.Images.{image_at}
 use Rattle.hs_promise.specs.Answers.{Answers}
 use Rattle.hs_promise.specs.Causes.{FullCause}
 use Rattle.hs_promise.specs.Entry.{MayStop, counted_course, entry_store}
 use Rattle.hs_promise.specs.Machine.{NeverOpened}
+use Rattle.hs_promise.specs.Headers.{KeepsHeaders}
 use Rattle.hs_promise.specs.Run.{Ran, Script}
 use Rattle.hs_promise.specs.Stops.{Stops}
 
@@ -72,8 +74,9 @@ module _ (S : Script) (r : Ran) (on : OnDisks S r) (unopened : IsUnopened S r) (
     | inr own ↦ subst (λ (course : List CourseItem). IsBegun course line m) own h
   ]
 
-  pub never_stops : Stops S (entry_store S r) r
-  never_stops = record {
+  pub never_stops : KeepsHeaders S r → Stops S (entry_store S r) r
+  never_stops keeps = record {
     logs = λ m peer during images low good. rest_logs S r on may notes m during (rested m during) images peer low good;
+    headed = λ m peer during own images good. keeps.each m peer during own (image_at images peer) good.left;
     reopens = λ m during images good. rest_reopens S r on may notes m during (rested m during) (begun m) images good;
   }

@@ -1,6 +1,7 @@
 //! A run may stop at each moment.
 ghost use Rattle.hs_clauses.specs.Shown.{IsToldRun};
 ghost use Rattle.hs_promise.specs.Entry.{MayStop, entry_store};
+ghost use Rattle.hs_promise.specs.Headers.{KeepsHeaders};
 ghost use Rattle.hs_promise.specs.Run.{Ran, Script};
 ghost use Rattle.hs_promise.specs.Stops.{Stops};
 
@@ -14,10 +15,11 @@ use hs_told::answers_stay_in_order;
 
 /// At each moment of a run on sound disks, with one copy of each shard: the images of good peers are
 /// logs, and whatever images count open at the store behind what was answered and then what is pending.
-/// So it is also of a run whose core ended with its opening, and of one that opened none.
+/// So it is also of a run whose core ended with its opening, and of one that opened none. That a stop
+/// leaves the headers of the peers is shown of any run beside this.
 pub fn a_run_may_stop()
     ensures { (S : Script) (r : Ran)
-        → IsToldRun S r → MayStop S r → Stops S (entry_store S r) r }
+        → IsToldRun S r → KeepsHeaders S r → MayStop S r → Stops S (entry_store S r) r }
 {
     catalogues_in_memory_are_folds();
     each_report_tells_its_block();

@@ -9,6 +9,7 @@ pub mod Ending
 pub mod Ends
 pub mod Entry
 pub mod Found
+pub mod Headers
 pub mod Kept
 pub mod Lines
 pub mod Lost

@@ -17,6 +17,7 @@ use Rattle.hs_promise.specs.Entry.{counted_course, is_aside}
 use Rattle.hs_journal.specs.Moments.{below}
 use Rattle.hs_fold.specs.Shards.Outstanding.{MayPend, pending}
 use Rattle.hs_events.specs.Taken.{or_blank, taken_lists}
+use Rattle.hs_promise.specs.Headers.{IsOwnAtEntry, IsOwnImage}
 use Rattle.hs_promise.specs.Run.{Ran, Script}
 use Rattle.hs_ports.specs.Objects.{IsDuring}
 
@@ -40,9 +41,10 @@ pub record Reopens (S : Script) (entry : Store) (r : Ran) (moment : ℕ) (images
   pub awaited : All (λ e. MayPend (IsAwaited S r moment) e.0) (pending_at S r moment images)
   pub once : AllPairs (λ one other. one ≢ other) (changing_lines (pending_at S r moment images))
 
--- at each moment of the call, whatever images count then: those of good peers are logs, and all together reopen
+-- at each moment of the call, whatever images count then: those of good peers are logs, each under its peer's header where a stop at entry left no other there, and all together reopen
 pub record Stops (S : Script) (entry : Store) (r : Ran) : Type 0 where
   pub logs : (m peer : ℕ) → IsDuring r.old r.new m → (images : List Image) → peer < length r.new.disks
       → IsGoodImage (stop_at S r m) images peer → IsSome (list_in (image_at images peer))
+  pub headed : (m peer : ℕ) → IsDuring r.old r.new m → IsOwnAtEntry S r peer → (images : List Image) → IsGoodImage (stop_at S r m) images peer → IsOwnImage S peer (image_at images peer)
   pub reopens : (m : ℕ) → IsDuring r.old r.new m → (images : List Image) → AreGoodImages S.set.shape (stop_at S r m) images
       → Reopens S entry r m images

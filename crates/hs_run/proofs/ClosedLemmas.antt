@@ -34,7 +34,9 @@ use Rattle.hs_promise.specs.Shapes.{IsFirstOther, IsFoundOther, IsOther, MayAllR
 use Rattle.hs_script.specs.Lines.{lines_of}
 use Rattle.hs_side.specs.Current.{current, header_in}
 use Rattle.hs_side.specs.declared.header.Header.{Header}
+use Rattle.hs_side.specs.Headers.{own_header}
 use Rattle.hs_taking.proofs.PastLemmas.{past_still}
+use Rattle.hs_taking.specs.Headed.{KeepsItsHeader}
 use Rattle.hs_taking.specs.Past.{PastStays}
 use Rattle.hs_taking.specs.Shares.{Span as Taking}
 use Rattle.hs_taking.specs.Spared.{SparesDisks}
@@ -46,6 +48,7 @@ use Rattle.hs_run.specs.Stopping.{of_cluster, status_of}
 use Rattle.hs_run.proofs.CaseLemmas.{if_any}
 use Rattle.hs_run.proofs.DisksLemmas.{count_is, disk_is, falls_is, past_is, rose_is, stands_at}
 use Rattle.hs_run.proofs.EndingLemmas.{none_bad}
+use Rattle.hs_run.proofs.HeaderLemmas.{header_kept, headers_kept}
 use Rattle.hs_run.proofs.LateLemmas.{followed_none, front_none}
 use Rattle.hs_run.proofs.PrintedLemmas.{followed_nothing}
 use Rattle.hs_run.proofs.RunLemmas.{chosen, chosen_first, chosen_told, put_by}
@@ -210,7 +213,7 @@ module _ (tells : Type 0) (set : Setting) (span : Taking) (fault : ClusterFault)
     (before : span.before ≡ old.moment) (now : span.now ≡ new.moment) (later : span.before ≤ span.now) (was : AreHanded old span.old) (is : AreHanded new span.new) (falls : NoneFalls span.old span.new) (since : tells → Since (stands_of span.new))
     (shape : IsShape set.shape) (disks : length span.old ≡ set.shape.shards * set.shape.copies) (handed : length old.disks ≡ length span.old) (same : length span.new ≡ length span.old) (handed_back : length new.disks ≡ length old.disks)
     (sink : old.sink_faults ≤ new.sink_faults) (source : old.source_faults ≤ new.source_faults) (taken : set.shape.copies ≡ 1 → LeavesAsTaken tells span)
-    (spares : SparesDisks tells set.shape span) where
+    (spares : SparesDisks tells set.shape span) (headed : (peer : ℕ) → peer < length span.old → KeepsItsHeader tells (own_header set.shape peer) span.before span.now (seen_at span.old peer) (seen_at span.new peer)) where
   abbrev r : Ran
   r = ran_at (status_of (Err (of_cluster fault)) 0) 0 None old new
 
@@ -308,6 +311,7 @@ module _ (tells : Type 0) (set : Setting) (span : Taking) (fault : ClusterFault)
     left = λ some. subst (λ (o : Option (List ℕ)). IsSome o) (sym unread) some;
     ends = if_any (λ told. IfSome new.left (Ends r told)) old.left (λ told there. closed_by told there);
     past = closed_keeps;
+    headers = λ told. headers_kept S r span.before span.now span.old span.new was is before now (λ peer own. header_kept tells set.shape span.before span.now span.old span.new peer told (headed peer) own);
     shape = closed_shape;
   }
 

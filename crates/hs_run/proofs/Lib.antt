@@ -9,6 +9,7 @@ pub mod EndsLemmas
 pub mod FeedLemmas
 pub mod FoundLemmas
 pub mod GoneLemmas
+pub mod HeaderLemmas
 pub mod KindLemmas
 pub mod LastLineLemmas
 pub mod LateLemmas

@@ -38,6 +38,7 @@ use Rattle.hs_run.specs.OneLine.{Stretch}
 use Rattle.hs_run.specs.Served.{Served}
 use Rattle.hs_run.specs.Stopping.{status_of}
 use Rattle.hs_run.proofs.CaseLemmas.{if_told}
+use Rattle.hs_run.proofs.HeaderLemmas.{headers_kept}
 use Rattle.hs_run.proofs.DisksLemmas.{disk_is, falls_is, none_fell, past_is, read_as, risen_since, rose_is, told_as}
 use Rattle.hs_run.proofs.FoundLemmas.{opened_ready, opened_so}
 use Rattle.hs_run.proofs.OpeningLemmas.{since_opened}
@@ -149,6 +150,9 @@ module _ (tells : Type 0) (set : Setting) (span : Span) (running : Running) (did
           ends = if_told (λ told. EndsBy told new.left part.result part.new.line) (λ told. IfSome new.left (Ends (ran_at (status_of part.result part.new.line) part.new.line (Some part.new.cluster) old new) told)) old.left ends
               (λ told h. ends_run part.result part.new.line (Some part.new.cluster) old new told h);
           past = λ one told. past_is old new m.runs.span.before m.runs.span.now m.runs.span.disks m.runs.span.left m.runs.old m.runs.new m.runs.before m.runs.now (m.runs.shown.past one told);
+          headers = λ told.
+              headers_kept (record { set = set; commands = commands }) (ran_at (status_of part.result part.new.line) part.new.line (Some part.new.cluster) old new) m.runs.span.before m.runs.span.now m.runs.span.disks m.runs.span.left m.runs.old m.runs.new m.runs.before m.runs.now
+              (m.runs.shown.headed told);
           shape = λ told. record {
             only = λ peer found is. absurd (no_shape peer found is);
             exact = λ peer found first may calm. absurd (calm (no_other commands (ran_at (status_of part.result part.new.line) part.new.line (Some part.new.cluster) old new) refl refl m told peer found first));

@@ -10,6 +10,7 @@ use Rattle.hs_promise.specs.Calm.{EndsCalm}
 use Rattle.hs_promise.specs.declared.status.Status.TheVariants as status
 use Rattle.hs_promise.specs.Ending.{ending_of}
 use Rattle.hs_promise.specs.Ends.{Ends}
+use Rattle.hs_promise.specs.Headers.{KeepsHeaders}
 use Rattle.hs_promise.specs.Promise.{AreOfScript}
 use Rattle.hs_promise.specs.Run.{IsNoLoad, Ran, Script}
 use Rattle.hs_promise.specs.Shapes.{ShapeCause}
@@ -49,4 +50,5 @@ pub record Served (tells : Type 0) (S : Script) (r : Ran) : Type 0 where
   pub left : IsSome r.old.left → IsSome r.new.left
   pub ends : IfSome r.old.left (λ script. IfSome r.new.left (Ends r script))
   pub past : S.set.shape.copies ≡ 1 → tells → KeepsPast r.old r.new
+  pub headers : tells → KeepsHeaders S r
   pub shape : tells → ShapeCause S r

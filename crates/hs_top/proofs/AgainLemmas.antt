@@ -18,13 +18,14 @@ use Rattle.hs_ports.specs.Disk.{IsImage, Loose, Standing, settled}
 use Rattle.hs_ports.specs.MemoryDisk.{untold}
 use Rattle.hs_ports.specs.Moments.{disk_at}
 use Rattle.hs_promise.specs.Entry.{MayStop, OneListAtEntry, entry_logs, entry_store, is_aside}
+use Rattle.hs_promise.specs.Headers.{KeepsHeaders}
 use Rattle.hs_promise.specs.Run.{Ran, Script}
 use Rattle.hs_promise.specs.Stops.{Stops, image_logs, stop_at}
 use Rattle.hs_run.specs.Machine.{IsOfCluster}
 use Rattle.hs_side.specs.Current.{list_in}
 use Rattle.hs_sound.specs.Stay.{AreSoundAlong}
 use Rattle.hs_standing.specs.Held.{GivesAddresses}
-use Rattle.hs_top.proofs.LaterLemmas.{counted_later, later, may_later, run_later, since_end}
+use Rattle.hs_top.proofs.LaterLemmas.{counted_later, headers_later, later, may_later, run_later, since_end}
 use Rattle.hs_top.proofs.LimitLemmas.{sound_too}
 use Rattle.hs_top.proofs.RestLemmas.{alone_sound, stopped_sound}
 use Rattle.hs_top.specs.Next.{Follows, script_after}
@@ -32,7 +33,7 @@ use Rattle.hs_top.specs.Rest.{EndsAtRest}
 
 -- what hs_clauses says of stops
 abbrev pub StopsAlong : Type 0
-StopsAlong = (S : Script) (r : Ran) → IsToldRun S r → MayStop S r → Stops S (entry_store S r) r
+StopsAlong = (S : Script) (r : Ran) → IsToldRun S r → KeepsHeaders S r → MayStop S r → Stops S (entry_store S r) r
 
 -- ---- what disks read as
 
@@ -87,7 +88,7 @@ module _ (laws : StopsAlong) (tells : Type 0) (S : Script) (r : Ran) (one : S.se
 
   pub sound : AreSoundAlong S.set (taken_lists S.set.shape (image_logs images))
   sound =
-      ((laws S (later r) (run_later S r tells told on cluster) (may_later S r may)).reopens ends.moment
+      ((laws S (later r) (run_later S r tells told on cluster) (headers_later S r tells told on cluster may) (may_later S r may)).reopens ends.moment
       (record { above = ends.above; up_to = ends.up_to; early = ends.early }) images all_good).sound
 
   -- ---- the next run

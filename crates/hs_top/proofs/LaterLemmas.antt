@@ -1,5 +1,6 @@
 -- A run as it is seen one moment later: it is shown so too.
-use Rattle.std.proofs.Common.{◌≡◌, ◌∙◌, ap, sym, subst, refl, ℕ, ◌+◌, ◌<◌, ◌&&◌, ◌==◌, arith, Bool, true, List, [], ◌∷◌, Option, Some, None, length, filter, if◌then◌else◌}
+use Rattle.std.proofs.Common.{◌≡◌, ◌∙◌, inl, inr, ap, sym, subst, refl, ℕ, ◌+◌, ◌<◌, ◌&&◌, ◌==◌, arith, Bool, true, List, [], ◌∷◌, Option, Some, None, length, filter, if◌then◌else◌}
+use Rattle.std.proofs.lemmas.Bool.{cases_lt}
 use Rattle.std.proofs.lemmas.List.Elements.{All-weaker}
 use Rattle.std.specs.Prelude.{IfSome}
 use Rattle.hs_clauses.proofs.ShownLemmas.{shown_of, unopened_of}
@@ -16,11 +17,12 @@ use Rattle.hs_fold.specs.Shards.Setting.{Numbered}
 use Rattle.hs_model.specs.declared.course.CourseItem.{CourseItem}
 use Rattle.hs_model.specs.declared.course.CourseItem.TheVariants as item
 use Rattle.hs_ports.specs.declared.disk.Side.{Side}
-use Rattle.hs_ports.specs.Disk.{Standing}
+use Rattle.hs_ports.specs.Disk.{IsImage, Loose, Standing}
 use Rattle.hs_ports.specs.Moments.{disk_at}
 use Rattle.hs_promise.specs.Ending.{ending_of}
 use Rattle.hs_promise.specs.Entry.{MayStop, counted_course, entry_logs, is_aside, logs_from, still_counts}
 use Rattle.hs_promise.specs.Found.{HasFound, IsLostBefore}
+use Rattle.hs_promise.specs.Headers.{IsOwnAtEntry, KeepsHeaders}
 use Rattle.hs_promise.specs.Lines.{AreLines, IsBegunLine, IsOnTime}
 use Rattle.hs_promise.specs.Machine.{NeverOpened, Went, WentAs, opening_is_whole}
 use Rattle.hs_promise.specs.Run.{Ran, Script}
@@ -164,3 +166,17 @@ module _ (S : Script) (r : Ran) where
 
     pub since_end : IsOfCluster tells S r → LeaveSince r.new.disks
     since_end cluster = since_by cluster.how cluster.runs (cluster.unopened on.one)
+
+    -- what a stop leaves behind the end is left one moment later
+    pub headers_later : IsOfCluster tells S r → MayStop S r → KeepsHeaders S (later r)
+    headers_later cluster may = record {
+      each = λ m peer during own image here. elim (cases_lt r.new.moment m) [
+        | inl above ↦ (cluster.served.headers told).behind peer (entry own) image
+            (λ side. subst (λ (l : Loose). IsImage l (image side)) (since_end cluster peer side m (let last = (cluster.served.past on.one told).called peer own.called in omega (arith, last, above))) (here.sides side))
+        | inr up ↦ (cluster.served.headers told).each m peer (record { above = during.above; up_to = up; early = during.early }) (entry own) image here
+      ];
+      behind = λ peer own image stands. (cluster.served.headers told).behind peer (entry own) image stands;
+    }
+      where
+        entry : {peer : ℕ} → IsOwnAtEntry S (later r) peer → IsOwnAtEntry S r peer
+        entry own = record { within = own.within; called = own.called; leaves = own.leaves }

@@ -32,6 +32,7 @@ use Rattle.hs_promise.specs.declared.status.Status.TheVariants as status
 use Rattle.hs_promise.specs.Deletes.{Deletes}
 use Rattle.hs_promise.specs.Ends.{Ends}
 use Rattle.hs_promise.specs.Entry.{IsSoundAtEntry, MayStop, entry_store}
+use Rattle.hs_promise.specs.Headers.{KeepsHeaders}
 use Rattle.hs_promise.specs.Found.{IsReadAs}
 use Rattle.hs_promise.specs.Kept.{KeepsAlong}
 use Rattle.hs_promise.specs.Lost.{IsPast, NoneGoodCause, NotesCause, NotesEnd}
@@ -56,7 +57,7 @@ pub record Laws : Type 0 where
   pub answers : (S : Script) (r : Ran) → IsToldRun S r → IsSoundAtEntry S r → Answers S (entry_store S r) r.journal
   pub full : (S : Script) (r : Ran) → IsToldRun S r → IsSoundAtEntry S r → FullCause S (entry_store S r) r
   pub keeps : (S : Script) (r : Ran) → IsToldRun S r → IsSoundAtEntry S r → KeepsAlong S (entry_store S r) r
-  pub stops : (S : Script) (r : Ran) → IsToldRun S r → MayStop S r → Stops S (entry_store S r) r
+  pub stops : (S : Script) (r : Ran) → IsToldRun S r → KeepsHeaders S r → MayStop S r → Stops S (entry_store S r) r
   -- deletion
   pub opens : (S : Script) (r : Ran) (story : Story) → OnDisks S r → IsShown S r story → IsSoundAtEntry S r → (first_core S.set story.found).ended ≡ None → RunOpens (start_of S r) story.found
   pub stands : (S : Script) (r : Ran) (story : Story) → OnDisks S r → IsShown S r story → IsSoundAtEntry S r → (first_core S.set story.found).ended ≡ None

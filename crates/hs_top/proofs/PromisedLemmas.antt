@@ -182,7 +182,7 @@ module _ (laws : Laws) (tells : Type 0) (S : Script) (r : Ran) (names : GivesAdd
       where_told : PromisedWhereTold S r
       where_told = record {
         clauses = clauses;
-        stops = λ may. laws.stops S r run may;
+        stops = λ may. laws.stops S r run (cluster.served.headers told) may;
         past = cluster.served.past one told;
         aside = aside_by cluster.how cluster.went shown;
         notes = notes_by cluster.how cluster.went (cluster.told told) cluster.runs shown;
@@ -211,5 +211,6 @@ module _ (laws : Laws) (tells : Type 0) (S : Script) (r : Ran) (names : GivesAdd
     none_good = λ none. laws.none_good S r cluster.how cluster.went cluster.shape in_opening none;
     ends = cluster.served.ends;
     shape = cluster.served.shape;
+    headers = cluster.served.headers;
     alone = promised_alone;
   }

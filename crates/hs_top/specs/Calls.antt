@@ -17,6 +17,7 @@ use Rattle.hs_promise.specs.Causes.{Cause, CauseButLoss}
 use Rattle.hs_promise.specs.Completes.{HasPrompt}
 use Rattle.hs_promise.specs.Ends.{Ends}
 use Rattle.hs_promise.specs.Entry.{IsSoundAtEntry, MayStop, entry_store, is_aside}
+use Rattle.hs_promise.specs.Headers.{KeepsHeaders}
 use Rattle.hs_promise.specs.Lost.{NoneGoodCause, NotesCause, NotesEnd}
 use Rattle.hs_promise.specs.Promise.{AreOfScript, Clauses, IsUsage}
 use Rattle.hs_promise.specs.Run.{DiskRose, IsNoLoad, Ran, Script, script_of}
@@ -62,6 +63,7 @@ pub record Promised (tells : Type 0) (S : Script) (r : Ran) : Type 0 where
   pub none_good : r.course ≡ [] → NoneGoodCause S r
   pub ends : IfSome r.old.left (λ script. IfSome r.new.left (Ends r script))
   pub shape : tells → ShapeCause S r
+  pub headers : tells → KeepsHeaders S r
   pub alone : S.set.shape.copies ≡ 1 → PromisedAlone tells S r
 
 -- ---- what a call promises

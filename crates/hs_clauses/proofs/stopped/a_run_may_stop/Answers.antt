@@ -4,7 +4,7 @@ use Rattle.hs_clauses.proofs.stopped.a_run_may_stop.Goals as goal
 use Rattle.hs_clauses.proofs.StopLemmas.{StopLaws}
 
 pub returns : goal.returns
-returns c = λ S r run may.
+returns c = λ S r run keeps may.
     let coming : ComingLaws = record {
       opens = c.answers_stay_in_order.ensures.opens;
       turns = c.answers_stay_in_order.ensures.events;
@@ -22,4 +22,4 @@ returns c = λ S r run may.
       first = c.a_run_goes_on.ensures.first;
       reopens = c.each_moment_of_a_run_stands.ensures.reopens;
     } in
-    told_stops laws c.catalogues_in_memory_are_folds.ensures.list c.each_report_tells_its_block.ensures.script S r run may
+    told_stops laws c.catalogues_in_memory_are_folds.ensures.list c.each_report_tells_its_block.ensures.script S r run keeps may

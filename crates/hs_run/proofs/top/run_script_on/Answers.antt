@@ -1,4 +1,4 @@
-use Rattle.std.proofs.Common.{◌≡◌, ◌∙◌, ap, sym, subst, refl, arith, map, ℕ, Option, None, Some, Err}
+use Rattle.std.proofs.Common.{◌≡◌, ◌∙◌, ◌<◌, ap, sym, subst, refl, arith, map, ℕ, Option, None, Some, Err}
 use Rattle.std.proofs.lemmas.List.{length-map}
 use Rattle.hs_cluster.proofs.DiskLemmas.{since_of}
 use Rattle.hs_cluster.specs.Calls.{outcome_by}
@@ -44,7 +44,8 @@ returns-in-Err-clause-ran g c =
     (record { stands = handed_stands f h (λ disk. refl) c.open.new.disks; counts = handed_counts f h (λ disk. refl) c.open.new.disks })
     c.open.ensures.counted (λ told. since_of f c.open.new.disks (g.met.D.Disk.since told)) c.requires.shape
     (length-map c.args.disks.now f ∙ c.requires.count) (seen_count h f c.args.disks.now) (length-map c.open.new.disks f ∙ c.open.ensures.count ∙ sym (length-map c.args.disks.now f))
-    (handed_count h c.args.disks.now c.open.new.disks c.open.ensures.count) (omega arith) (omega arith) c.in-Err.ensures.unopened c.in-Err.ensures.spares)
+    (handed_count h c.args.disks.now c.open.new.disks c.open.ensures.count) (omega arith) (omega arith) c.in-Err.ensures.unopened c.in-Err.ensures.spares
+    (λ peer low. c.in-Err.ensures.headed peer (subst (λ n. peer < n) (length-map c.args.disks.now f) low)))
 
 -- ---- its script was run
 
