@@ -33,6 +33,7 @@ use Rattle.hs_run.specs.Machine.{AreHanded, IsOfCluster, RunsOnDisks}
 use Rattle.hs_run.specs.Served.{Served}
 use Rattle.hs_run.proofs.DisksLemmas.{disk_is, failed_by, falls_is, lost_by, none_fell, paid_by, past_is, read_as, risen_since, rose_is, told_as}
 use Rattle.hs_run.proofs.FoundLemmas.{has_found}
+use Rattle.hs_run.proofs.HeaderLemmas.{headers_kept}
 use Rattle.hs_run.proofs.RunLemmas.{put_by}
 use Rattle.hs_run.proofs.ShapeLemmas.{refusal_of}
 use Rattle.hs_run.proofs.WentLemmas.{ArePaid}
@@ -120,6 +121,7 @@ module _ (tells : Type 0) (e : AtEntry) (found : Found) (first : Running) (openi
       left = λ some. some;
       ends = tt;
       past = λ one told. past_is (silent e.moment e.disks) (silent now disks) e.moment now e.disks disks (handed_so e.moment e.disks) (handed_so now disks) refl refl (shown.past one told);
+      headers = λ told. headers_kept S r e.moment now e.disks disks (handed_so e.moment e.disks) (handed_so now disks) refl refl (shown.headed told);
       shape = λ told. record {
         only = λ peer header is. absurd (never_shape why peer header is);
         exact = λ peer header is may stands. absurd (stands (no_other told peer header is));
