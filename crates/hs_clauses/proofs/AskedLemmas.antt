@@ -1,33 +1,40 @@
 -- Of a run that is shown whole, over sound disks, whose core goes on behind its opening: all that is asked of it follows, so that it runs soundly.
-use Rattle.std.proofs.Common.{◌≡◌, ◌∙◌, ap, sym, subst, ℕ, zero, suc, ◌+◌, ◌<◌, ◌≤◌, ◌++◌, Bool, true, false, List, [], ◌∷◌, Option, Some, None, refl, map, arith}
-use Rattle.std.specs.List.{AllByRecursion, range_with_len}
-use Rattle.std.specs.Prelude.{unwrap_or}
+use Rattle.std.proofs.Common.{◌≡◌, ◌∙◌, ap, sym, subst, inl, inr, ℕ, zero, suc, ◌+◌, ◌<◌, ◌≤◌, ◌++◌, Bool, true, false, List, [], ◌∷◌, Option, Some, None, refl, map, arith}
+use Rattle.std.proofs.lemmas.Bool.{cases_lt}
+use Rattle.std.proofs.lemmas.List.{get_or_past}
+use Rattle.std.specs.List.{AllByRecursion, list_any, range_with_len}
+use Rattle.std.specs.Prelude.{drop, if◌then◌else◌, slice_index_or, take, unwrap_or}
 use Rattle.hs_standing.specs.Walks.{HasRecordRoom}
 use Rattle.hs_standing.specs.Answered.{KeepsRecordRoom, TellTheirBlocks, judging_of}
 use Rattle.hs_clauses.proofs.LineLemmas.{flat_same, joined, opening_due}
-use Rattle.hs_clauses.proofs.ListLemmas.{lists_are, opened_is}
+use Rattle.hs_clauses.proofs.ListLemmas.{lists_are}
 use Rattle.hs_clauses.proofs.ReadLemmas.{BringsAll, applied_all, from_empty, read_brings, read_from_one}
 use Rattle.hs_clauses.proofs.RoomLemmas.{keeps_room}
 use Rattle.hs_clauses.specs.Asked.{lined, start_of}
-use Rattle.hs_clauses.specs.Shown.{IsShown, OnDisks, RunsSoundly, RunsTold}
+use Rattle.hs_clauses.specs.Shown.{IsShown, OnDisks, OpensAtEntry, RunsSoundly, RunsTold}
 use Rattle.hs_cluster.proofs.OpeningMoves.{all_good}
 use Rattle.hs_cluster.specs.Kept.{AreTold}
 use Rattle.hs_core_words.specs.State.{Core}
 use Rattle.hs_desk.specs.declared.fault.CoreFault.{CoreFault}
 use Rattle.hs_events.specs.Course.{steps}
 use Rattle.hs_events.specs.Due.{Events, MomentsRise, is_walk, next_due}
-use Rattle.hs_events.specs.Found.{Found, first_core, opened_catalogue, opened_list, opens_with, starts_good}
+use Rattle.hs_events.specs.Found.{Found, first_core, opened_catalogue, opened_list, starts_good}
 use Rattle.hs_events.specs.Sane.{IsFromOne}
-use Rattle.hs_events.specs.Taken.{peer_count, taken_lists}
+use Rattle.hs_events.specs.Taken.{or_blank, peer_count, taken_list}
 use Rattle.hs_events.specs.Whole.{open_whole}
+use Rattle.hs_entry.specs.Entries.{rank_of}
+use Rattle.hs_fold.specs.Opened.{chosen, chosen_each, outranks}
 use Rattle.hs_fold.specs.Runs.Opened.{catalogues, store_of}
 use Rattle.hs_fold.specs.Shards.Setting.{Numbered}
-use Rattle.hs_standing.specs.Held.{KeepsAddresses}
+use Rattle.hs_standing.specs.Held.{GivesAddresses, KeepsAddresses}
+use Rattle.hs_journal.specs.Events.{client_op}
+use Rattle.hs_limits.specs.Shape.{IsShape}
+use Rattle.hs_members.specs.Members.{peers_of}
 use Rattle.hs_ports.specs.declared.disk.Side.{Side}
 use Rattle.hs_ports.specs.Moments.{disk_at}
 use Rattle.hs_standing.specs.Script.{AreLines, all_events as lines_events}
 use Rattle.hs_promise.specs.Ending.{ending_of}
-use Rattle.hs_promise.specs.Entry.{IsSoundAtEntry, entry_logs, entry_store}
+use Rattle.hs_promise.specs.Entry.{IsSoundAtEntry, entry_store}
 use Rattle.hs_promise.specs.Found.{IsReadAs}
 use Rattle.hs_promise.specs.Machine.{Went, opening_is_whole}
 use Rattle.hs_promise.specs.Run.{Ran, Script}
@@ -40,11 +47,9 @@ use Rattle.hs_answered.specs.Telling.{Judging}
 use Rattle.hs_model.specs.Store.{Store}
 use Rattle.hs_standing.proofs.LinesStepLemmas.{step_ended}
 use Rattle.hs_standing.proofs.FirstRoomLemmas.{first_room}
-use Rattle.hs_standing.proofs.TakenLemmas.{FoldsInMemory, run_begins}
-use Rattle.hs_standing.specs.Opening.{opened_lists}
+use Rattle.hs_standing.proofs.TakenLemmas.{FoldsInMemory}
 use Rattle.hs_standing.specs.Run.{RunBegins, RunOpens}
 use Rattle.hs_standing.specs.Standing.{judging_of as run_judging}
-use Rattle.hs_standing.specs.Lists.{whole_from}
 use Rattle.hs_standing.specs.Start.{Start}
 
 -- ---- what is asked
@@ -55,8 +60,6 @@ pub record IsAskedOf (S : Script) (r : Ran) (story : Story) : Type 0 where
   pub sound : IsSoundAtEntry S r
   pub read : (peer : ℕ) → peer < peer_count S.set.shape → IsReadAs r story peer
   pub going : (first_core S.set story.found).ended ≡ None
-  pub lists : (shard : ℕ) → shard < S.set.shape.shards → IsFromOne (opened_list S.set story.found shard)
-  pub addressed : AllByRecursion KeepsAddresses (opens_with S.set story.found).catalogues
   pub few : HasRecordRoom (first_core S.set story.found)
   pub runs : RunsSoundly S r story
 
@@ -72,6 +75,77 @@ disk_from_one seen = go (list_in seen) refl
 each_range : (P : Catalogue → Type 0) (f : ℕ → Catalogue) (k n : ℕ) → ((j : ℕ) → k ≤ j → j < k + n → P (f j)) → AllByRecursion P (map f (range_with_len k n))
 each_range P f k zero h = tt
 each_range P f k (suc n) h = (h k (omega arith) (omega arith), each_range P f (k + 1) n (λ j low high. h j (omega (arith, low)) (omega (arith, high))))
+
+-- ---- of the lists with which it opens, for any number of copies
+
+module _ (P : Numbered → Type 0) (none : P []) where
+  chosen_all : (lists : List Numbered) → AllByRecursion P lists → P (chosen lists)
+  chosen_all [] all = none
+  chosen_all (l ∷ ls) all = go (outranks (rank_of (chosen ls)) (rank_of l)) (chosen_all ls all.1)
+    where
+      go : (b : Bool) → P (chosen ls) → P (if b then chosen ls else l)
+      go true h = h
+      go false h = all.0
+
+  taken_all : (n : ℕ) (lists : List Numbered) → AllByRecursion P lists → AllByRecursion P (take n lists)
+  taken_all zero lists all = tt
+  taken_all (suc n) [] all = tt
+  taken_all (suc n) (l ∷ ls) all = (all.0, taken_all n ls all.1)
+
+  dropped_all : (n : ℕ) (lists : List Numbered) → AllByRecursion P lists → AllByRecursion P (drop n lists)
+  dropped_all zero lists all = all
+  dropped_all (suc n) [] all = tt
+  dropped_all (suc n) (l ∷ ls) all = dropped_all n ls all.1
+
+  each_chosen : (n copies : ℕ) (lists : List Numbered) → AllByRecursion P lists → (k : ℕ) → P (slice_index_or (chosen_each n copies lists) k [])
+  each_chosen zero copies lists all k = none
+  each_chosen (suc n) copies lists all zero = chosen_all (take copies lists) (taken_all copies lists all)
+  each_chosen (suc n) copies lists all (suc k) = each_chosen n copies (drop copies lists) (dropped_all copies lists all) k
+
+  blanks_all : (logs : List (Option Numbered)) → ((peer : ℕ) → P (unwrap_or (slice_index_or logs peer None) [])) → AllByRecursion P (or_blank logs)
+  blanks_all [] h = tt
+  blanks_all (log ∷ logs) h = (h 0, blanks_all logs (λ peer. h (suc peer)))
+
+-- what is so of each list that is read, and of none, is so of that with which a shard opens
+module _ (S : Script) (r : Ran) (story : Story) (went : Went S r story) (read : (peer : ℕ) → peer < peer_count S.set.shape → IsReadAs r story peer) where
+  opens_read : (P : Numbered → Type 0) → P [] → ((seen : Side → List ℕ) → P (unwrap_or (list_in seen) [])) → (shard : ℕ) → P (opened_list S.set story.found shard)
+  opens_read P none of shard = go (list_any (starts_good story.found) (peers_of S.set.shape shard))
+    where
+      log : (peer : ℕ) → P (unwrap_or (slice_index_or story.found.logs peer None) [])
+      log peer = elim (cases_lt peer (peer_count S.set.shape)) [
+        | inl low ↦ elim (read peer low) [
+          | inl same ↦ subst (λ (o : Option Numbered). P (unwrap_or o [])) (sym same) (of (disk_at r.old.disks peer).seen)
+          | inr failed ↦ subst (λ (o : Option Numbered). P (unwrap_or o [])) (sym failed.0) none
+        ]
+        | inr high ↦ subst (λ (o : Option Numbered). P (unwrap_or o [])) (sym (get_or_past story.found.logs peer None (let long = went.found.logs in omega (arith, long, high)))) none
+      ]
+
+      go : (b : Bool) → P (if b then taken_list S.set.shape story.found.logs shard else [])
+      go true = each_chosen P none S.set.shape.shards S.set.shape.copies (or_blank story.found.logs) (blanks_all P none story.found.logs log) shard
+      go false = none
+
+  -- where it opens with the lists at entry it begins there
+  pub begins_at_entry : IsShape S.set.shape → GivesAddresses S.set.name → client_op (S.commands 0) ≡ None → IsSoundAtEntry S r → OpensAtEntry S r story → RunBegins (start_of S r) story.found
+  begins_at_entry shape names nobody sound at_entry = record {
+    soundly = record {
+      shape = shape;
+      names = names;
+      many = went.found.goods;
+      lists = λ shard low. opens_read (λ list. IsFromOne list) from_empty disk_from_one shard;
+      sound = subst (λ (ls : List Numbered). AreSoundAlong S.set ls) at_entry sound;
+      addressed = each_range KeepsAddresses (opened_catalogue S.set story.found) 0 S.set.shape.shards
+          (λ g low high. applied_all S.set.name names (opened_list S.set story.found g) (empty_catalogue S.set.shape g) (brings g) (record { blocks = tt; roots = tt }));
+    };
+    entry = ap (λ (ls : List Numbered). store_of (catalogues S.set 0 ls)) at_entry;
+    nobody = nobody;
+  }
+    where
+      brings : (g : ℕ) → BringsAll S.set.name names (opened_list S.set story.found g)
+      brings g = opens_read (λ list. BringsAll S.set.name names list) tt (λ seen. go seen (list_in seen) refl) g
+        where
+          go : (seen : Side → List ℕ) (o : Option Numbered) → list_in seen ≡ o → BringsAll S.set.name names (unwrap_or o [])
+          go seen None e = tt
+          go seen (Some list) e = read_brings S.set.name names seen list e
 
 -- ---- it follows
 
@@ -123,46 +197,11 @@ module _ (memory : FoldsInMemory) (reads : ReadsBlocks) (S : Script) (r : Ran) (
   pub good : (p : ℕ) → p < S.set.shape.shards → starts_good story.found p ≡ true
   good p low = all_good S.set story.found on.one shown.went.found.goods going p low
 
-  opens_disk : (p : ℕ) → p < S.set.shape.shards → opened_list S.set story.found p ≡ unwrap_or (list_in (disk_at r.old.disks p).seen) []
-  opens_disk p low = opened_is S r story shown.went on.one shown.read on.disks good p low
-
-  lists : (shard : ℕ) → shard < S.set.shape.shards → IsFromOne (opened_list S.set story.found shard)
-  lists p low = subst (λ (list : Numbered). IsFromOne list) (sym (opens_disk p low)) (disk_from_one (disk_at r.old.disks p).seen)
-
-  brings : (p : ℕ) → p < S.set.shape.shards → BringsAll S.set.name on.names (opened_list S.set story.found p)
-  brings p low = subst (λ (list : Numbered). BringsAll S.set.name on.names list) (sym (opens_disk p low)) (go (list_in (disk_at r.old.disks p).seen) refl)
-    where
-      go : (o : Option Numbered) → list_in (disk_at r.old.disks p).seen ≡ o → BringsAll S.set.name on.names (unwrap_or o [])
-      go None e = tt
-      go (Some list) e = read_brings S.set.name on.names (disk_at r.old.disks p).seen list e
-
-  addressed : AllByRecursion KeepsAddresses (opens_with S.set story.found).catalogues
-  addressed =
-      each_range KeepsAddresses (opened_catalogue S.set story.found) 0 S.set.shape.shards
-      (λ g low high. applied_all S.set.name on.names (opened_list S.set story.found g) (empty_catalogue S.set.shape g) (brings g (omega (arith, high))) (record { blocks = tt; roots = tt }))
-
-  lists_at_entry : AreSoundAlong S.set (whole_from (opened_lists S.set story.found) 0 S.set.shape.shards)
-  lists_at_entry = subst (λ (ls : List Numbered). AreSoundAlong S.set ls) (lists_are S r story shown.went on.one shown.read on.disks good) sound
+  begins : RunBegins (start_of S r) story.found
+  begins = begins_at_entry S r story shown.went shown.read on.shape on.names on.nobody sound (lists_are S r story shown.went on.one shown.read on.disks good)
 
   few : HasRecordRoom (first_core S.set story.found)
-  few = first_room S.set story.found memory lists_at_entry
-
-  opens : RunOpens (start_of S r) story.found
-  opens = record {
-    well = record {
-      one = on.one;
-      going = going;
-      many = shown.went.found.goods;
-      lists = lists;
-      sound = lists_at_entry;
-      nobody = on.nobody;
-      few = few;
-    };
-    shape = on.shape;
-    entry = ap (λ (ls : List Numbered). store_of (catalogues S.set 0 ls)) (lists_are S r story shown.went on.one shown.read on.disks good);
-    names = on.names;
-    addressed = addressed;
-  }
+  few = first_room S.set story.found memory begins.soundly.sound
 
   pub asked_of : IsAskedOf S r story
   asked_of = record {
@@ -170,30 +209,27 @@ module _ (memory : FoldsInMemory) (reads : ReadsBlocks) (S : Script) (r : Ran) (
     sound = sound;
     read = shown.read;
     going = going;
-    lists = lists;
-    addressed = addressed;
     few = few;
-    runs = soundly_of memory reads S r story (record { went = shown.went; begins = run_begins (start_of S r) story.found opens; rooms = shown.rooms; told = shown.told });
+    runs = soundly_of memory reads S r story (record { went = shown.went; begins = begins; rooms = shown.rooms; told = shown.told });
   }
 
 -- ---- it opens at the store at entry
 
-pub run_opens : (S : Script) (r : Ran) (story : Story) → Went S r story → IsAskedOf S r story → RunOpens (start_of S r) story.found
-run_opens S r story went asked = record {
-  well = record {
-    one = asked.on.one;
-    going = asked.going;
-    many = went.found.goods;
-    lists = asked.lists;
-    sound = subst (λ (lists : List Numbered). AreSoundAlong S.set lists) are asked.sound;
-    nobody = asked.on.nobody;
-    few = asked.few;
-  };
-  shape = asked.on.shape;
-  entry = ap (λ (lists : List Numbered). store_of (catalogues S.set 0 lists)) are;
-  names = asked.on.names;
-  addressed = asked.addressed;
-}
-  where
-    are : taken_lists S.set.shape (entry_logs S r) ≡ whole_from (opened_lists S.set story.found) 0 S.set.shape.shards
-    are = lists_are S r story went asked.on.one asked.read asked.on.disks (λ p low. all_good S.set story.found asked.on.one went.found.goods asked.going p low)
+pub run_opens : (S : Script) (r : Ran) (story : Story) → IsAskedOf S r story → RunOpens (start_of S r) story.found
+run_opens S r story asked =
+    let b = asked.runs.begins in
+    record {
+      well = record {
+        one = asked.on.one;
+        going = asked.going;
+        many = b.soundly.many;
+        lists = b.soundly.lists;
+        sound = b.soundly.sound;
+        nobody = b.nobody;
+        few = asked.few;
+      };
+      shape = b.soundly.shape;
+      entry = b.entry;
+      names = b.soundly.names;
+      addressed = b.soundly.addressed;
+    }

@@ -45,5 +45,4 @@ pub mod StoredFrontLemmas
 pub mod TakenLemmas
 pub mod TellLemmas
 pub mod UnopenedLemmas
-pub mod WantLemmas
 pub mod WholeReadLemmas

@@ -8,7 +8,7 @@ use Rattle.hs_standing.specs.Walks.{HasRecordRoom}
 use Rattle.hs_answered.specs.Standing.{store_with}
 use Rattle.hs_answered.specs.Telling.{Judging}
 use Rattle.hs_standing.specs.Answered.{KeepsRecordRoom, TellTheirBlocks}
-use Rattle.hs_cluster.specs.Kept.{AreStored, AreTold}
+use Rattle.hs_cluster.specs.Kept.{AreTold}
 use Rattle.hs_awaiting.specs.declared.waiting.Waiting.{Waiting}
 use Rattle.hs_core_words.specs.declared.event.Event.{Event}
 use Rattle.hs_core_words.specs.declared.task.Task.{Task}
@@ -50,7 +50,6 @@ use Rattle.hs_clauses.proofs.AwaitLemmas.{awaiting_line, none_awaiting}
 use Rattle.hs_clauses.proofs.HomeLemmas.{Fine}
 use Rattle.hs_clauses.proofs.HomeWalk.{fine_event, fine_opens}
 use Rattle.hs_clauses.proofs.TellLemmas.{reports_tell}
-use Rattle.hs_clauses.proofs.WantLemmas.{is_stored}
 use Rattle.hs_clauses.specs.Along.{AllCome, Comes}
 use Rattle.hs_clauses.specs.Home.{AreAtHome, IsAtHome}
 use Rattle.hs_clauses.specs.Run.{IsReading, ReadStands}
@@ -278,29 +277,3 @@ module _ (below : LawsBelow) (start : Start) where
       first_room : (core : Core) (fs : Events) → KeepsRecordRoom core fs → ((steps core fs).ended ≡ None → HasRecordRoom (steps core fs)) → core.ended ≡ None → HasRecordRoom core
       first_room core [] keep behind now = behind now
       first_room core (f ∷ fs) keep behind now = keep.0 now
-
-  -- what a job reads is in what is sealed
-  over_stored : (c : Whole) (es : Events) (f : CoreFault) → c.core.ended ≡ Some f → AreStored c es
-  over_stored c [] f over = tt
-  over_stored c (e ∷ es) f over = (
-    λ going. (let bad : None ≡ Some f = sym going ∙ over in absurd (cc bad)),
-    over_stored (step_whole e.0 e.1 c) es f (ap (λ (d : Core). d.ended) (step_ended e.0 e.1 c.core f over) ∙ over),
-  )
-
-  pub all_stored : (c : Whole) (es : Events) → IsReading start c → AllCome (judging_of start) c.core es → KeepsRecordRoom c.core es → AreTold c es → AreStored c es
-  all_stored c [] r come room told = tt
-  all_stored c (e ∷ es) r come room told = (
-    λ going. is_stored start c r,
-    by_end (λ f over. over_stored (step_whole e.0 e.1 c) es f over) (λ going. by_more es room.1 (λ n. all_stored (step_whole e.0 e.1 c) es n come.1 room.1 told.1) going) (step e.0 e.1 c.core).ended refl,
-  )
-    where
-      Stored : Events → Type 0
-      Stored fs = AreStored (step_whole e.0 e.1 c) fs
-
-      by_more : (fs : Events) → KeepsRecordRoom (step e.0 e.1 c.core) fs → (IsReading start (step_whole e.0 e.1 c) → Stored fs) → (step e.0 e.1 c.core).ended ≡ None → Stored fs
-      by_more [] keep later going = tt
-      by_more (f ∷ fs) keep later going = later (reads_event c e.0 e.1 r (come.0 r.stands.whole.sane.going) (reports_tell start c r e.0 told.0) keep.0 going)
-
-      by_end : ((f : CoreFault) → (step e.0 e.1 c.core).ended ≡ Some f → Stored es) → ((step e.0 e.1 c.core).ended ≡ None → Stored es) → (o : Option CoreFault) → (step e.0 e.1 c.core).ended ≡ o → Stored es
-      by_end over now None going = now going
-      by_end over now (Some f) ended = over f ended

@@ -3,7 +3,7 @@ use Rattle.std.proofs.Common.{◌≡◌, sym, subst, ℕ, ◌≤◌, ◌++◌, B
 use Rattle.hs_answered.specs.Telling.{Judging}
 use Rattle.hs_standing.proofs.AddressedLemmas.{AllAddressed, LinesAsk, lines_addressed, settle_addressed}
 use Rattle.hs_standing.specs.Answered.{KeepsRecordRoom, TellTheirBlocks}
-use Rattle.hs_cluster.specs.Kept.{AreStored, AreTold}
+use Rattle.hs_cluster.specs.Kept.{AreTold}
 use Rattle.hs_core_words.specs.declared.event.Event.{Event}
 use Rattle.hs_core_words.specs.Opening.{new_core}
 use Rattle.hs_core_words.specs.State.{Core}
@@ -21,12 +21,11 @@ use Rattle.hs_standing.proofs.LinesStepLemmas.{step_ended}
 use Rattle.hs_standing.specs.Script.{AreLines, IsNext, Script, all_events}
 use Rattle.hs_model.specs.declared.command.Command.{Command}
 use Rattle.hs_clauses.proofs.ReadsFirstLemmas.{Stays, opens_first}
-use Rattle.hs_clauses.proofs.RunLemmas.{all_stored, reads_open}
 use Rattle.hs_clauses.specs.Along.{AllCome}
 use Rattle.hs_clauses.proofs.WholeReadLemmas.{tell_soundly}
 use Rattle.hs_clauses.specs.Run.{script_of}
 use Rattle.hs_standing.proofs.RunLemmas.{LawsBelow}
-use Rattle.hs_standing.specs.Run.{RunBegins, RunOpens}
+use Rattle.hs_standing.specs.Run.{RunBegins}
 use Rattle.hs_standing.specs.Standing.{judging_of}
 use Rattle.hs_standing.specs.Start.{Start}
 use Rattle.hs_told.specs.InTurn.{AllMayCome, IsInTurn, after_all}
@@ -121,7 +120,3 @@ module _ (below : LawsBelow) (laws : ScriptLaws) (start : Start) (found : Found)
   pub script_tells : KeepsRecordRoom (first_core start.set found) (opening ++ all_events lines) → AreTold (open_whole start.set found) (opening ++ all_events lines)
       → TellTheirBlocks (judging_of start) start.entry (first_core start.set found) (opening ++ all_events lines)
   script_tells room told = tell_soundly below start found (opening ++ all_events lines) b come room told
-
-  pub script_stored : RunOpens start found → KeepsRecordRoom (first_core start.set found) (opening ++ all_events lines) → AreTold (open_whole start.set found) (opening ++ all_events lines)
-      → AreStored (open_whole start.set found) (opening ++ all_events lines)
-  script_stored o room told = all_stored below start (open_whole start.set found) (opening ++ all_events lines) (reads_open below start found o) come room told

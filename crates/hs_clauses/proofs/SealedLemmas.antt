@@ -29,7 +29,7 @@ use Rattle.hs_clauses.specs.Numbered.{AreNumbered, AreWithin}
 -- ---- numbers and entries
 
 -- a number that a block carries
-number_within : (front number : ℕ) (blocks : BlockList) → AreWithin front blocks → is_some (pointers_at number blocks) ≡ true → (1 ≤ number) × (number ≤ front)
+pub number_within : (front number : ℕ) (blocks : BlockList) → AreWithin front blocks → is_some (pointers_at number blocks) ≡ true → (1 ≤ number) × (number ≤ front)
 number_within front number [] all some = absurd (cc some)
 number_within front number (x ∷ blocks) all some = by (x.1.number == number) refl some (number_within front number blocks all.1)
   where

@@ -105,12 +105,12 @@ module _ (laws : StopLaws) (S : Script) (r : Ran) (story : Story) (went : Went S
   -- ---- a stop
 
   opens : RunOpens (start_of S r) story.found
-  opens = run_opens S r story went asked
+  opens = run_opens S r story asked
 
   then_counts : (m : ℕ) → GoodPeersCount whole_machine (state_then S story m)
   then_counts m =
       runs_count (open_whole S.set story.found) (until m (happened first (all_events story)))
-      (good_counts (open_whole S.set story.found) (opening_is_sane S.set story.found asked.on.one asked.going asked.lists went.found.goods))
+      (good_counts (open_whole S.set story.found) (opening_is_sane S.set story.found asked.on.one asked.going asked.runs.begins.soundly.lists went.found.goods))
 
   -- no disk was set aside, so each has one list
   lists_of : MayStop S r → HaveOneList r

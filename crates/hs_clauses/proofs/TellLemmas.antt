@@ -303,35 +303,24 @@ module _ (start : Start) (c : Whole) (r : ReadsWhatIsSealed start c) where
 -- ---- with one copy a shard
 
 module _ (start : Start) (c : Whole) (r : IsReading start c) where
-  pub folded : IsFolded c.core (r.stands.whole.cs)
-  folded = r.stands.holds.stands.lawful.folded
-
   alone : AreAlone (face c.core)
   alone = r.stands.whole.sane.alone
 
-  pub peer_low : (peer : ℕ) (task : Task) → first_task peer c.core ≡ Some task → peer < (shape_of c.core).shards
+  peer_low : (peer : ℕ) (task : Task) → first_task peer c.core ≡ Some task → peer < (shape_of c.core).shards
   peer_low peer task is = by_place (cases_lt peer c.core.members.shape.shards)
     where
       by_place : (peer < c.core.members.shape.shards) ⊎ (c.core.members.shape.shards ≤ peer) → peer < (shape_of c.core).shards
       by_place (inl low) = low
       by_place (inr high) = let bad : None ≡ Some task = sym (first_past c.core peer alone high) ∙ is in absurd (cc bad)
 
-  -- what took effect of a shard's list
-  abbrev took_of : ℕ → Numbered
-  took_of shard = take (front_of shard c.core) (reach c shard)
-
   module _ (peer : ℕ) (low : peer < (shape_of c.core).shards) where
-    pub sealed_is : sealed_front c peer ≡ take (front_of peer c.core) (reach c peer)
+    sealed_is : sealed_front c peer ≡ take (front_of peer c.core) (reach c peer)
     sealed_is = ap (λ n. take n (reach c peer)) (floor_alone c peer alone low ∙ (r.stands.whole.sane.settled peer low).settled)
 
     fold_is : catalogue_at r.stands.whole.cs peer ≡ catalogue_of (shard_in start.set peer) (take (front_of peer c.core) (reach c peer))
     fold_is =
         ap (λ (ds : List Folded). catalogue_at ds peer) (sym r.stands.whole.settled.folds)
         ∙ folds_at start.set (lists_of whole_machine c) peer (subst (λ (x : Shape). peer < x.shards) r.stands.whole.shape low)
-
-    -- a block that is there was stored by an entry of it
-    pub stored_there : (a : Address) (number : ℕ) (there : IsThere (catalogue_at r.stands.whole.cs peer) a number) → IsStoredBy (take (front_of peer c.core) (reach c peer)) there.facts
-    stored_there a number there = stored_by (shard_in start.set peer) (took_of peer) a there.facts (subst (λ (d : Folded). facts_at d a ≡ Some there.facts) fold_is there.found)
 
     -- a number has one entry
     once : (number : ℕ) (x y : Entry) → Contains (sealed_front c peer) (number, x) → Contains (sealed_front c peer) (number, y) → x ≡ y

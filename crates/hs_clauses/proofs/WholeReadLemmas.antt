@@ -6,7 +6,7 @@ use Rattle.std.specs.BTreeMap.{is_at}
 use Rattle.std.specs.List.{enumerate_from}
 use Rattle.std.specs.Option.{option_map}
 use Rattle.std.specs.Ordering.{nat_cmp}
-use Rattle.std.specs.Prelude.{drop, if◌then◌else◌, take}
+use Rattle.std.specs.Prelude.{drop, if◌then◌else◌}
 use Rattle.hs_answered.specs.Standing.{IsFolded}
 use Rattle.hs_answered.specs.Telling.{Judging}
 use Rattle.hs_awaiting.specs.declared.wait.Wait.TheVariants as wait
@@ -82,7 +82,6 @@ use Rattle.hs_standing.specs.Walks.{Walks}
 use Rattle.hs_tails.proofs.AlongLemmas.{takes_first}
 use Rattle.hs_tails.proofs.GoingLemmas.{stays as tails_stay, took_is}
 use Rattle.hs_tails.specs.Tails.{TakesFirst}
-use Rattle.hs_tokens.specs.Seats.{held_at, seat_of}
 use Rattle.hs_whole_copies.proofs.AllLemmas.{all_stay, shape_after}
 use Rattle.hs_whole_copies.proofs.OpenLemmas.{opens_whole, took_first}
 use Rattle.hs_whole_copies.specs.Whole.{IsWholeInStep, StaysWhole}
@@ -228,7 +227,7 @@ module _ (below : LawsBelow) (start : Start) (c : Whole) (r : ReadsInStep start 
   low_in g low = subst (λ (s : Shape). g < s.shards) r.shape low
 
   pub reads_sealed : ReadsWhatIsSealed start c
-  reads_sealed = in_step_reads start c r.machines r.whole r.folds r.holds r.at_home (λ g low. r.settled g (low_in g low))
+  reads_sealed = in_step_reads c r.machines r.whole start r.folds r.holds r.at_home (λ g low. r.settled g (low_in g low))
 
   pub tells : (e : Event) → IsTold c (report_in e) → ReportsBlocks (judging_of start) start.entry e c.core
   tells e told = reports_right start c reads_sealed e told

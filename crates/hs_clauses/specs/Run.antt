@@ -1,5 +1,5 @@
 -- A run whose operations wait for blocks that are there, and are sealed where they are read.
-use Rattle.std.specs.Prelude.{◌≡◌, ℕ, ◌*◌, ◌<◌, Bool, Contains, List, Some}
+use Rattle.std.specs.Prelude.{◌≡◌, ℕ, ◌<◌, Bool, Contains, List, Some}
 use Rattle.hs_cluster.specs.Kept.{sealed_front}
 use Rattle.hs_copies.specs.Machine.{Copies}
 use Rattle.hs_core_copies.specs.Lists.{numbered}

@@ -5,7 +5,7 @@ use Rattle.hs_cluster.specs.Kept.{AreTold}
 use Rattle.hs_cluster.specs.Rooms.{HaveRecordRoom}
 use Rattle.hs_events.specs.Course.{happened}
 use Rattle.hs_events.specs.Found.{first_core}
-use Rattle.hs_events.specs.Taken.{peer_count}
+use Rattle.hs_events.specs.Taken.{peer_count, taken_lists}
 use Rattle.hs_events.specs.Whole.{open_whole}
 use Rattle.hs_fold.specs.Images.{IsLeft}
 use Rattle.hs_fold.specs.Shards.Images.{Image}
@@ -19,13 +19,15 @@ use Rattle.hs_peerlog.specs.Images.{LeavesOnly}
 use Rattle.hs_ports.specs.Moments.{disk_at}
 use Rattle.hs_ports.specs.Objects.{IsDuring}
 use Rattle.hs_promise.specs.Ending.{ending_of}
-use Rattle.hs_promise.specs.Entry.{entry_store}
+use Rattle.hs_promise.specs.Entry.{entry_logs, entry_store}
 use Rattle.hs_promise.specs.Found.{IsReadAs}
 use Rattle.hs_promise.specs.Machine.{NeverOpened, Went}
 use Rattle.hs_promise.specs.Run.{Ran, Script}
 use Rattle.hs_promise.specs.Story.{Story, all_events}
 use Rattle.hs_side.specs.Current.{list_in}
 use Rattle.hs_standing.specs.Answered.{TellTheirBlocks}
+use Rattle.hs_standing.specs.Lists.{whole_from}
+use Rattle.hs_standing.specs.Opening.{opened_lists}
 use Rattle.hs_standing.specs.Run.{RunBegins}
 use Rattle.hs_standing.specs.Standing.{judging_of}
 
@@ -55,6 +57,10 @@ pub record RunsSoundly (S : Script) (r : Ran) (story : Story) : Type 0 where
   pub begins : RunBegins (start_of S r) story.found
   pub rooms : HaveRecordRoom (first_core S.set story.found) (all_events story)
   pub blocks : TellTheirBlocks (judging_of (start_of S r)) (entry_store S r) (first_core S.set story.found) (all_events story)
+
+-- for any number of copies it opens with the lists at entry
+abbrev pub OpensAtEntry : Script → Ran → Story → Type 0
+OpensAtEntry S r story = taken_lists S.set.shape (entry_logs S r) ≡ whole_from (opened_lists S.set story.found) 0 S.set.shape.shards
 
 -- so it is too where each report tells what the list of the peer that was asked has
 pub record RunsTold (S : Script) (r : Ran) (story : Story) : Type 0 where

@@ -1,12 +1,18 @@
 //! A run that goes on behind its opening stands.
-ghost use Rattle.std.specs.Prelude.{◌≡◌, None};
+ghost use Rattle.std.specs.Prelude.{◌≡◌, ◌<◌, ℕ, None};
 ghost use Rattle.hs_clauses.specs.Asked.{start_of};
-ghost use Rattle.hs_clauses.specs.Shown.{IsShown, OnDisks, RunsSoundly};
+ghost use Rattle.hs_clauses.specs.Shown.{IsShown, OnDisks, OpensAtEntry, RunsSoundly};
 ghost use Rattle.hs_events.specs.Found.{first_core};
+ghost use Rattle.hs_events.specs.Taken.{peer_count};
+ghost use Rattle.hs_journal.specs.Events.{client_op};
+ghost use Rattle.hs_limits.specs.Shape.{IsShape};
 ghost use Rattle.hs_promise.specs.Entry.{IsSoundAtEntry};
+ghost use Rattle.hs_promise.specs.Found.{IsReadAs};
+ghost use Rattle.hs_promise.specs.Machine.{Went};
 ghost use Rattle.hs_promise.specs.Run.{Ran, Script};
 ghost use Rattle.hs_promise.specs.Story.{Story, all_events};
-ghost use Rattle.hs_standing.specs.Run.{MayRun, RunOpens};
+ghost use Rattle.hs_standing.specs.Held.{GivesAddresses};
+ghost use Rattle.hs_standing.specs.Run.{MayRun, RunBegins, RunOpens};
 ghost use Rattle.hs_standing.specs.Standing.{AllMayKeep};
 
 use crate::each_report_tells_its_block;
@@ -17,7 +23,8 @@ use hs_told::answers_stay_in_order;
 /// A run on sound disks, with one copy of each shard, whose core goes on behind its opening, opens at
 /// the store at entry (`opens`), and each of its events may come and leaves it standing (`keeps`): it
 /// begins over sound lists, and its reports tell the bytes of their blocks (`soundly`). For any number of
-/// copies each event of such a run may come and leaves it standing (`events`).
+/// copies each event of such a run may come and leaves it standing (`events`); and a run begins over sound lists,
+/// where these are those with which it opens (`begins`).
 pub fn a_run_stands()
     ensures opens { (S : Script) (r : Ran) (story : Story)
         → OnDisks S r → IsShown S r story → IsSoundAtEntry S r
@@ -35,6 +42,10 @@ pub fn a_run_stands()
     ensures events { (S : Script) (r : Ran) (story : Story) → RunsSoundly S r story →
         AllMayKeep (start_of S r) (MayRun (start_of S r)) (first_core S.set story.found)
         (all_events story) }
+    ensures begins { (S : Script) (r : Ran) (story : Story) → Went S r story
+        → ((peer : ℕ) → peer < peer_count S.set.shape → IsReadAs r story peer)
+        → IsShape S.set.shape → GivesAddresses S.set.name → client_op (S.commands 0) ≡ None
+        → IsSoundAtEntry S r → OpensAtEntry S r story → RunBegins (start_of S r) story.found }
 {
     catalogues_in_memory_are_folds();
     each_report_tells_its_block();

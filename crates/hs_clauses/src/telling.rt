@@ -1,7 +1,7 @@
 //! Reports tell the bytes of their blocks.
 ghost use Rattle.std.specs.Prelude.{◌≡◌, ◌++◌, ℕ, Bool, true, List};
 ghost use Rattle.hs_standing.specs.Answered.{KeepsRecordRoom, TellTheirBlocks};
-ghost use Rattle.hs_cluster.specs.Kept.{AreStored, AreTold, IsTold};
+ghost use Rattle.hs_cluster.specs.Kept.{AreTold, IsTold};
 ghost use Rattle.hs_core_words.specs.declared.event.Event.{Event};
 ghost use Rattle.hs_events.specs.Asked.{report_in};
 ghost use Rattle.hs_events.specs.Course.{steps};
@@ -12,7 +12,7 @@ ghost use Rattle.hs_standing.specs.Script.{AreLines, all_events};
 ghost use Rattle.hs_clauses.specs.Along.{AllCome};
 ghost use Rattle.hs_clauses.specs.Run.{IsReading, ReadsWhatIsSealed, script_of};
 ghost use Rattle.hs_standing.specs.Coming.{ReportsBlocks};
-ghost use Rattle.hs_standing.specs.Run.{RunBegins, RunOpens};
+ghost use Rattle.hs_standing.specs.Run.{RunBegins};
 ghost use Rattle.hs_standing.specs.Standing.{judging_of};
 ghost use Rattle.hs_standing.specs.Start.{Start};
 
@@ -32,9 +32,7 @@ use hs_told::answers_stay_in_order;
 
 /// Along events that come in a run, as long as root records and waiting Roots are few: where each
 /// report tells what is sealed of its peer's list, it tells the operation that waits for it the bytes of
-/// its block, as the plain store has it then (`told`); and what a peer is to read is in what is sealed of
-/// its list, where its shard has a block by that number (`stored`). So is the last of a script's run over sound
-/// lists, from opening on, also where the last line is cut short or the core ends (`wanted`).
+/// its block, as the plain store has it then (`told`).
 /// For any number of copies it is so of each event that comes to a core whose folds are those of what took
 /// effect, where a peer that is to read has that sealed (`report`); so of all events of a run over sound lists, from
 /// opening on (`soundly`), and so of a script's, also where the last line is cut short or the core ends (`script`).
@@ -43,10 +41,6 @@ pub fn each_report_tells_its_block()
         → IsReading start c → AllCome (judging_of start) c.core events
         → KeepsRecordRoom c.core events → AreTold c events →
         TellTheirBlocks (judging_of start) start.entry c.core events }
-    ensures stored { (start : Start) (c : Whole) (events : Events)
-        → IsReading start c → AllCome (judging_of start) c.core events
-        → KeepsRecordRoom c.core events → AreTold c events →
-        AreStored c events }
     ensures script { (start : Start) (found : Found) (past done : Bool) (opening : Events)
         (lines : List Events) (to : ℕ)
         → RunBegins start found → MomentsRise found.opened (opening ++ all_events lines) to
@@ -56,14 +50,6 @@ pub fn each_report_tells_its_block()
         → AreTold (open_whole start.set found) (opening ++ all_events lines) →
         TellTheirBlocks (judging_of start) start.entry (first_core start.set found)
         (opening ++ all_events lines) }
-    ensures wanted { (start : Start) (found : Found) (past done : Bool) (opening : Events)
-        (lines : List Events) (to : ℕ)
-        → RunOpens start found → MomentsRise found.opened (opening ++ all_events lines) to
-        → is_walk next_due done 0 (first_core start.set found) opening ≡ true
-        → AreLines (script_of start past) 1 (steps (first_core start.set found) opening) lines
-        → KeepsRecordRoom (first_core start.set found) (opening ++ all_events lines)
-        → AreTold (open_whole start.set found) (opening ++ all_events lines) →
-        AreStored (open_whole start.set found) (opening ++ all_events lines) }
     ensures report { (start : Start) (c : Whole) (event : Event)
         → ReadsWhatIsSealed start c → IsTold c (report_in event) →
         ReportsBlocks (judging_of start) start.entry event c.core }

@@ -1,4 +1,4 @@
-use Rattle.hs_clauses.proofs.AskedLemmas.{IsAskedOf, asked_of, run_opens}
+use Rattle.hs_clauses.proofs.AskedLemmas.{IsAskedOf, asked_of, begins_at_entry, run_opens}
 use Rattle.hs_clauses.proofs.ComingLemmas.{ComingLaws}
 use Rattle.hs_clauses.proofs.KeptRunLemmas.{all_kept}
 use Rattle.hs_clauses.proofs.standing.a_run_stands.Goals as goal
@@ -6,7 +6,7 @@ use Rattle.hs_clauses.proofs.standing.a_run_stands.Goals as goal
 pub returns-clause-opens : goal.returns-clause-opens
 returns-clause-opens c = λ S r story on shown sound going.
     let asked : IsAskedOf S r story = asked_of c.catalogues_in_memory_are_folds.ensures.list c.each_report_tells_its_block.ensures.script S r story on sound shown going in
-    run_opens S r story shown.went asked
+    run_opens S r story asked
 
 pub returns-clause-keeps : goal.returns-clause-keeps
 returns-clause-keeps c = λ S r story on shown sound going.
@@ -43,3 +43,6 @@ returns-clause-events c = λ S r story run.
       asks = c.a_line_asks_as_its_command.ensures;
     } in
     all_kept coming c.catalogues_in_memory_are_folds.ensures.list S r story run
+
+pub returns-clause-begins : goal.returns-clause-begins
+returns-clause-begins c = λ S r story went read shape names nobody sound at_entry. begins_at_entry S r story went read shape names nobody sound at_entry
