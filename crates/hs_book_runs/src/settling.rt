@@ -1,5 +1,6 @@
 //! A cluster that goes on from what workers of a book left.
-ghost use Rattle.std.specs.Prelude.{◌≡◌, ◌*◌, ◌<◌, ◌≤◌, map, vec_len};
+ghost use Rattle.std.specs.Prelude.{◌≡◌, ◌*◌, ◌<◌, ◌≤◌, ◌^◌, None, length, map, true, vec_len};
+ghost use Rattle.hs_cluster.specs.Resuming.{EndAsSealed};
 ghost use Rattle.hs_taking.specs.Disks.{AreReady, seen_as};
 
 use crate::fault::RunFault;
@@ -9,8 +10,34 @@ use hs_cluster::{Cluster, ClusterFault};
 use hs_core::Core;
 use hs_load::are_fit;
 use hs_model::Command;
+use hs_peerlog::PeerLog;
 use hs_ports::{Disk, Watch};
 use std::alloc::Global;
+
+/// The most lines that may have been begun.
+const MOST_LINES: u64 = 4_611_686_018_427_387_904;
+
+/// Whether a cluster can go on from a core and these logs, over so many disks, at a moment.
+fn can_resume(core: &Core, logs: &[Option<PeerLog>], disks: usize, now: u64) -> bool
+    ensures going { result ≡ true → core.now.ended ≡ None }
+    ensures lasts { result ≡ true → EndAsSealed core.now logs.now }
+    ensures logs { result ≡ true → length logs.now
+        ≡ core.now.members.shape.shards * core.now.members.shape.copies }
+    ensures disks { result ≡ true → disks
+        ≡ core.now.members.shape.shards * core.now.members.shape.copies }
+    ensures moment { result ≡ true → core.now.moment ≤ now }
+    ensures room { result ≡ true → core.now.progress.last_line < 2 ^ 62 }
+{
+    let shape = core.shape();
+    let peers = usize::from(shape.shards * shape.copies);
+    if core.ended().is_some() || logs.len() != peers || disks != peers {
+        return false;
+    }
+    if now < core.last_moment() || core.last_line() >= MOST_LINES {
+        return false;
+    }
+    are_fit(core, logs)
+}
 
 /// Lets a cluster settle over the disks of a vector, as a line of a number.
 fn settle<D: Disk>(
@@ -47,17 +74,10 @@ pub(crate) fn settled<D: Disk + Drop>(
         mut disks,
         mut watch,
     } = stand;
-    let shape = core.shape();
-    let peers = usize::from(shape.shards * shape.copies);
-    if core.ended().is_some() || logs.len() != peers || disks.len() != peers {
+    if !can_resume(&core, logs.as_slice(), disks.len(), watch.now()) {
         return Err(RunFault::Unfit);
     }
-    if watch.now() < core.last_moment() || !are_fit(&core, logs.as_slice()) {
-        return Err(RunFault::Unfit);
-    }
-    let Some(line) = core.last_line().checked_add(1) else {
-        return Err(RunFault::Unfit);
-    };
+    let line = core.last_line() + 1;
     let mut cluster = Cluster::resume(alloc, core, logs);
     settle(&mut cluster, &mut disks, &mut watch, line)?;
     let (core, _logs) = cluster.into_parts();
