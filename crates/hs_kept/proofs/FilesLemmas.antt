@@ -115,10 +115,10 @@ module _ (laws : Laws) (tells : Type 0) (name : List ℕ → Address) (shape : S
   -- ---- a client that was answered
 
   module _ (e : AtEntry) (start now : Shown (IsTold tells e)) (asks : AsksAsClient tells name shape r e start now) where
-    here : IsTold tells e
+    pub here : IsTold tells e
     here = told_here e asks.set asks.disks
 
-    asks_plainly : AsksPlainly tells name shape r now.commands
+    pub asks_plainly : AsksPlainly tells name shape r now.commands
     asks_plainly =
         let answers : AnswersFrom (client_script name shape now.commands) (opened (set_of name shape) (or_blank (lists_of e.disks))) r.journal =
         answers_from laws (client_script name shape now.commands) (beneath r asks.until (status_by now.ended)) (told_run tells (client_script name shape now.commands) (beneath r asks.until (status_by now.ended)) told one names asks.machine)
@@ -128,7 +128,7 @@ module _ (laws : Laws) (tells : Type 0) (name : List ℕ → Address) (shape : S
         record { ended = now.ended; until = asks.until; machine = asks.machine; legal = from.legal; replied = from.replied }
 
     -- the store that is told is the one behind what was answered
-    behind_is : now.began ≡ start.began → store_now now.began now ≡ store_behind name shape now.commands r
+    pub behind_is : now.began ≡ start.began → store_now now.began now ≡ store_behind name shape now.commands r
     behind_is same =
         ap (λ (b : Began). run b.limits b.store (events_of now.commands b.name b.limits b.store now.journal)) (same ∙ asks.began ∙ began_is e asks.set asks.disks)
         ∙ ap (λ (journal : List JournalEntry). run greatest_limits (store_before name shape r) (events_of now.commands name greatest_limits (store_before name shape r) journal)) (sym asks.journal)

@@ -1,3 +1,4 @@
+pub mod CopiedLemmas
 pub mod FilesLemmas
 pub mod HeldLemmas
 pub mod LawLemmas

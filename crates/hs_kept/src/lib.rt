@@ -1,8 +1,10 @@
 //! What the store of a client keeps of a file: laws, each a function without parameters whose clauses are the law.
 #![tactic(auto)]
 
+mod copies;
 mod files;
 mod told;
 
+pub use copies::a_root_is_copied;
 pub use files::a_file_is_kept;
 pub use told::a_client_is_told;

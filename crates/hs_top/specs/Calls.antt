@@ -2,8 +2,8 @@
 use Rattle.std.specs.Prelude.{IfSome, List, None, Option, [], length, true, ℕ, ◌<◌, ◌≡◌, ◌⊎◌}
 use Rattle.hs_checks.specs.Audited.{IsAudited}
 use Rattle.hs_checks.specs.Compared.{IsCompared}
-use Rattle.hs_files.specs.Copied.{CopiesRoot}
 use Rattle.hs_journal.specs.Order.{IsOrdered}
+use Rattle.hs_kept.specs.Copied.{CopiesAndKeeps}
 use Rattle.hs_kept.specs.Kept.{FetchesAndGives, StoresAndKeeps}
 use Rattle.hs_limits.specs.declared.address.Address.{Address}
 use Rattle.hs_limits.specs.declared.shape.Shape.{Shape}
@@ -82,7 +82,7 @@ Does tells name shape task.Audit r = IsAudited tells name shape r
 Does tells name shape (task.Scrub from) r = IsCompared tells shape from r
 Does tells name shape (task.Store key) r = StoresAndKeeps tells name shape key r
 Does tells name shape (task.Fetch key) r = FetchesAndGives tells name shape key r
-Does tells name shape (task.Copy key dir second delete) r = CopiesRoot tells name (record { first = shape; second = second }) key delete r
+Does tells name shape (task.Copy key dir second delete) r = CopiesAndKeeps tells name (record { first = shape; second = second }) key delete r
 
 -- the words of a call ask for what is served, and that is done; or for what is not, and then nothing was done
 pub record IsCalled (tells : Type 0) (name : List ℕ → Address) (words : List (List ℕ)) (r : Ran) : Type 0 where

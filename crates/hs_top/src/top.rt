@@ -9,7 +9,7 @@ ghost use Rattle.hs_top.specs.Calls.{Does, IsCalled, RunsSo};
 ghost use Rattle.hs_top.specs.Words.{is_load, is_load_task, is_served};
 ghost use Rattle.hs_wanted.specs.Asked.{IsTask};
 
-use crate::files::{give_file, keep_file};
+use crate::files::{copy_key, give_file, keep_file};
 use crate::load::load_with;
 use crate::words::{is_load, served_on};
 use hs_block::Addresser;
@@ -18,7 +18,6 @@ use hs_clauses::{
     a_run_is_answered, a_run_keeps, a_run_may_stop, a_run_stands, what_is_read_is_sealed,
 };
 use hs_desk::OpenGate;
-use hs_files::run_copy;
 use hs_limits::{Limits, Shape};
 use hs_ports::{Disk, Sink, Source, Watch};
 use hs_promise::{Outcome, Status};
@@ -130,7 +129,7 @@ fn do_task<A: Addresser, S: Source, K: Sink, D: Disk + Drop>(
             ..
         } => {
             let key = key.as_slice();
-            run_copy(
+            copy_key(
                 alloc, naming, shape, *second, key, *delete, sink, disks, watch,
             )
         }

@@ -1,6 +1,6 @@
 use Rattle.std.proofs.Common.{sym, subst, ℕ, List, Option, map}
 use Rattle.hs_checks.specs.Audited.{EndsAudit, IsAudited}
-use Rattle.hs_files.specs.Copied.{CopiesRoot}
+use Rattle.hs_kept.specs.Copied.{CopiesAndKeeps}
 use Rattle.hs_kept.specs.Kept.{FetchesAndGives, StoresAndKeeps}
 use Rattle.hs_limits.specs.Limits.{greatest_limits}
 use Rattle.hs_ports.specs.Objects.{Objects, handed}
@@ -61,6 +61,6 @@ returns-in-Fetch-clause-does g c =
 pub returns-in-Copy-clause-does : goal.returns-in-Copy-clause-does
 returns-in-Copy-clause-does g c =
     let old : Objects = handed c.args.watch.now (map (λ disk. (g.D.Disk.stands disk, g.D.Disk.faults disk)) c.args.disks.now.items) (g.K.Sink.got c.args.sink.now, g.K.Sink.faults c.args.sink.now) (g.S.Source.left c.args.source.now, g.S.Source.faults c.args.source.now) in
-    let new : Objects = handed c.run_copy.new.watch (map (λ disk. (g.D.Disk.stands disk, g.D.Disk.faults disk)) c.run_copy.new.disks.items) (g.K.Sink.got c.run_copy.new.sink, g.K.Sink.faults c.run_copy.new.sink) (g.S.Source.left c.args.source.now, g.S.Source.faults c.args.source.now) in
-    subst (λ (t : Task). Does g.D.Disk.tells (g.A.Addresser.name c.args.naming.now) c.args.shape t (ran_of c.run_copy.result old new)) (sym c.in-Copy.is)
-    (subst (λ (key : List ℕ). CopiesRoot g.D.Disk.tells (g.A.Addresser.name c.args.naming.now) (record { first = c.args.shape; second = c.in-Copy.second }) key c.in-Copy.delete (ran_of c.run_copy.result old new)) c.as_slice-key.ensures.bytes (c.run_copy.ensures.copies (g.S.Source.left c.args.source.now, g.S.Source.faults c.args.source.now)))
+    let new : Objects = handed c.copy_key.new.watch (map (λ disk. (g.D.Disk.stands disk, g.D.Disk.faults disk)) c.copy_key.new.disks.items) (g.K.Sink.got c.copy_key.new.sink, g.K.Sink.faults c.copy_key.new.sink) (g.S.Source.left c.args.source.now, g.S.Source.faults c.args.source.now) in
+    subst (λ (t : Task). Does g.D.Disk.tells (g.A.Addresser.name c.args.naming.now) c.args.shape t (ran_of c.copy_key.result old new)) (sym c.in-Copy.is)
+    (subst (λ (key : List ℕ). CopiesAndKeeps g.D.Disk.tells (g.A.Addresser.name c.args.naming.now) (record { first = c.args.shape; second = c.in-Copy.second }) key c.in-Copy.delete (ran_of c.copy_key.result old new)) c.as_slice-key.ensures.bytes (c.copy_key.ensures.copies (g.S.Source.left c.args.source.now, g.S.Source.faults c.args.source.now)))

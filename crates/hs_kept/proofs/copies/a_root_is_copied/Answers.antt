@@ -1,0 +1,21 @@
+use Rattle.hs_kept.proofs.CopiedLemmas.{copies_plainly}
+use Rattle.hs_kept.proofs.LawLemmas.{Laws}
+use Rattle.hs_kept.proofs.copies.a_root_is_copied.Goals as goal
+
+pub returns : goal.returns
+returns g c =
+    let laws : Laws = record {
+      answers = c.a_run_is_answered.ensures.answers;
+      opens = c.a_run_stands.ensures.opens;
+      stands = c.a_run_stands.ensures.keeps;
+      running = c.a_run_goes_on.ensures.opens;
+      goes_on = c.a_run_goes_on.ensures.goes_on;
+      led = c.shard_0_is_led_by_lines.ensures.went;
+      led_ended = c.shard_0_is_led_by_lines.ensures.ended;
+      led_never = c.shard_0_is_led_by_lines.ensures.never;
+      distinct = c.a_store_of_sound_lists_is_right.ensures.distinct;
+      acyclic = c.a_store_of_sound_lists_is_right.ensures.acyclic;
+      named = c.a_store_of_sound_lists_is_right.ensures.named;
+      spelled = c.a_store_of_sound_lists_is_right.ensures.spelled;
+    } in
+    λ name shapes key every r told one_each each_one names sound h. copies_plainly laws g.D.Disk.tells name shapes r told one_each each_one names sound key every h

@@ -1,0 +1,36 @@
+-- What a copy of a root comes to in the words of the plain store, where the disks of both stores tell their contents and are sound at entry, with one copy of each shard.
+use Rattle.std.specs.Prelude.{List, Option, ℕ, ◌≡◌, ◌⊎◌}
+use Rattle.hs_copy.specs.Copied.{IsCopied}
+use Rattle.hs_copy.specs.Writing.{IsCopyRefusal}
+use Rattle.hs_files.specs.Copied.{CopiesRoot, IsInFirst, Shapes, in_first, in_second}
+use Rattle.hs_limits.specs.declared.address.Address.{Address}
+use Rattle.hs_model.specs.declared.command.Command.{Command}
+use Rattle.hs_model.specs.declared.reply.Reply.{Reply}
+use Rattle.hs_model.specs.declared.reply.Reply.TheVariants as reply
+use Rattle.hs_promise.specs.Run.{Ran}
+use Rattle.hs_promise.specs.declared.status.Status.TheVariants as status
+use Rattle.hs_kept.specs.Kept.{AsksPlainly, IsSoundStart, store_behind}
+
+-- the disks of both hold bytes, and have sound lists
+pub record AreSoundStarts (name : List ℕ → Address) (shapes : Shapes) (r : Ran) : Type 0 where
+  pub first : IsSoundStart name shapes.first (in_first shapes.first r.ending r)
+  pub second : IsSoundStart name shapes.second (in_second shapes.first r.ending r)
+
+-- what was asked of either store is a legal run of the plain store, with its answers; behind them the key is copied from the first into the second
+pub record HasRootOf (tells : Type 0) (name : List ℕ → Address) (shapes : Shapes) (key : List ℕ) (r : Ran) : Type 0 where
+  pub one : Ran
+  pub in_it : IsInFirst shapes.first r one
+  pub reads : ℕ → Option Command
+  pub read : AsksPlainly tells name shapes.first one reads
+  pub writes : ℕ → Option Command
+  pub written : AsksPlainly tells name shapes.second (in_second shapes.first r.ending r) writes
+  pub copied : IsCopied (store_behind name shapes.first reads one) (store_behind name shapes.second writes (in_second shapes.first r.ending r)) key
+
+pub record CopiesPlainly (tells : Type 0) (name : List ℕ → Address) (shapes : Shapes) (key : List ℕ) (r : Ran) : Type 0 where
+  pub done : r.ending ≡ status.Done → HasRootOf tells name shapes key r
+  pub refusal : (told : Reply) → r.ending ≡ status.Refused told → (told ≡ reply.NoKey key) ⊎ IsCopyRefusal key told
+
+-- with what the command itself promises, all that is promised of it
+pub record CopiesAndKeeps (tells : Type 0) (name : List ℕ → Address) (shapes : Shapes) (key : List ℕ) (every : Option ℕ) (r : Ran) : Type 0 where
+  pub copies : CopiesRoot tells name shapes key every r
+  pub plainly : tells → shapes.first.copies ≡ 1 → shapes.second.copies ≡ 1 → AreSoundStarts name shapes r → CopiesPlainly tells name shapes key r

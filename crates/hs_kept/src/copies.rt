@@ -1,0 +1,30 @@
+//! What a copy of a root comes to, in the words of the plain store.
+ghost use Rattle.std.specs.Prelude.{◌≡◌, ℕ, List, Option};
+ghost use Rattle.hs_files.specs.Copied.{CopiesRoot, Shapes};
+ghost use Rattle.hs_kept.specs.Copied.{AreSoundStarts, CopiesPlainly};
+ghost use Rattle.hs_limits.specs.declared.address.Address.{Address};
+ghost use Rattle.hs_promise.specs.Run.{Ran};
+ghost use Rattle.hs_standing.specs.Held.{GivesAddresses};
+
+use hs_clauses::{a_run_is_answered, a_run_stands};
+use hs_founded::a_store_of_sound_lists_is_right;
+use hs_ports::Disk;
+use hs_settled::shard_0_is_led_by_lines;
+use hs_standing::a_run_goes_on;
+
+/// Where the disks of two stores tell their contents, with one copy of each shard in both, and hold bytes
+/// and sound lists at entry: behind a copy that is done the key is copied from the first store into the
+/// second. One is refused only where the key keeps nothing in the first, or for a block or the root in
+/// the second.
+pub fn a_root_is_copied<D: Disk>()
+    ensures { (name : List ℕ → Address) (shapes : Shapes) (key : List ℕ) (every : Option ℕ) (r : Ran)
+        → D.tells → shapes.first.copies ≡ 1 → shapes.second.copies ≡ 1 → GivesAddresses name
+        → AreSoundStarts name shapes r → CopiesRoot D.tells name shapes key every r
+        → CopiesPlainly D.tells name shapes key r }
+{
+    a_run_is_answered();
+    a_run_stands();
+    a_run_goes_on();
+    shard_0_is_led_by_lines();
+    a_store_of_sound_lists_is_right();
+}

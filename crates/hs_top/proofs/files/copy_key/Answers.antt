@@ -1,0 +1,7 @@
+use Rattle.hs_top.proofs.files.copy_key.Goals as goal
+
+pub returns-clause-copies : goal.returns-clause-copies
+returns-clause-copies g c = λ source. record {
+  copies = c.run_copy.ensures.copies source;
+  plainly = λ told one each sound. c.a_root_is_copied.ensures _ _ _ _ _ told one each (g.A.Addresser.sized c.args.naming.now) sound (c.run_copy.ensures.copies source);
+}
