@@ -1,6 +1,8 @@
+use Rattle.hs_clauses.specs.Asked.{start_of}
 use Rattle.hs_kept.proofs.CopiedLemmas.{copies_plainly}
 use Rattle.hs_kept.proofs.LawLemmas.{Laws}
 use Rattle.hs_kept.proofs.copies.a_root_is_copied.Goals as goal
+use Rattle.hs_standing.proofs.TakenLemmas.{run_begins}
 
 pub returns : goal.returns
 returns g c =
@@ -10,7 +12,7 @@ returns g c =
       stands = c.a_run_stands.ensures.keeps;
       running = c.a_run_goes_on.ensures.opens;
       goes_on = c.a_run_goes_on.ensures.goes_on;
-      led = c.shard_0_is_led_by_lines.ensures.went;
+      led = λ S r story went opens may. c.shard_0_is_led_by_lines.ensures.went S r story went (run_begins (start_of S r) story.found opens) may;
       led_ended = c.shard_0_is_led_by_lines.ensures.ended;
       led_never = c.shard_0_is_led_by_lines.ensures.never;
       distinct = c.a_store_of_sound_lists_is_right.ensures.distinct;
