@@ -70,7 +70,7 @@ module _ (S : Script) (r : Ran) (story : Story) (shape : IsShape S.set.shape) (w
   ]
     where
       by_seen : (o : Option Numbered) → o ≡ list_in (disk_at r.old.disks peer).seen → IsRanked (unwrap_or o [])
-      by_seen None e = blank_ranked
+      by_seen None e none = blank_ranked none
       by_seen (Some list) e none =
           ap (λ (xs : Numbered). (rank_of xs).view) (none_listed list (read_numbered (disk_at r.old.disks peer).seen list (sym e)) none) ∙ blank_ranked blank_number
 

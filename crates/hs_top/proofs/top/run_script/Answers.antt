@@ -1,4 +1,3 @@
-use Rattle.std.proofs.Common.{◌≡◌}
 use Rattle.hs_clauses.specs.Asked.{start_of}
 use Rattle.hs_standing.proofs.TakenLemmas.{run_begins}
 use Rattle.hs_top.proofs.LawLemmas.{Laws}
