@@ -104,7 +104,7 @@ down_members true false g q b = rest_members g (change_view g (leave q b)) ∙ v
 down_members false true g q b = (anew (joining_peers g (leave q b)) (leave q b)).members
 down_members false false g q b = refl
 
-falls_members : (q : ℕ) (b : Core) → (go_down q b).members ≡ become q Down b.members
+pub falls_members : (q : ℕ) (b : Core) → (go_down q b).members ≡ become q Down b.members
 falls_members q b = down_members (is_good_status (status_of q b)) (is_peer q (lead_of (home q b) b)) (home q b) q b
 
 joins_members : (q : ℕ) (b : Core) → (join q b).members ≡ become q Good b.members

@@ -112,7 +112,7 @@ module _ (laws : CallLaws) (start : Start) (line : ℕ) (core : Core) (es : Even
   pub own : AllAreOwn start.commands core es
   own = all_own start.commands start.set.shape start.set.limits core es (noting start core so) come (its_ask start.commands line core es its)
 
-  pub call_moments : (n : ℕ) → HasRoom start (steps core (take n es))
+  pub call_moments : (n : ℕ) → HasRoom start 0 (steps core (take n es))
   call_moments n = front_room laws.room start core so es may own n
 
   pub call_so_far : IsSoFar start (steps core es)

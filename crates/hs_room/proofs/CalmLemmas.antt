@@ -9,7 +9,7 @@ use Rattle.hs_core_words.specs.State.{Core}
 use Rattle.hs_events.specs.Course.{steps}
 use Rattle.hs_events.specs.Due.{Events}
 use Rattle.hs_events.specs.Found.{Found, first_core, opens_with}
-use Rattle.hs_events.specs.Whole.{open_whole}
+use Rattle.hs_events.specs.Taken.{peer_count}
 use Rattle.hs_fold.specs.Runs.Facts.{Catalogue as Folded, plain}
 use Rattle.hs_fold.specs.Runs.Opened.{catalogues, store_of}
 use Rattle.hs_fold.specs.Shards.Setting.{Numbered, Setting}
@@ -19,6 +19,7 @@ use Rattle.hs_journal.specs.declared.entry.Who.TheVariants as who
 use Rattle.hs_journal.specs.Events.{client_op}
 use Rattle.hs_journal.specs.Order.{IsOfLine}
 use Rattle.hs_journal.specs.Telling.{MayTell}
+use Rattle.hs_journal.specs.Notes.{note_count}
 use Rattle.hs_laws.specs.Valid.{IsValid}
 use Rattle.hs_limits.specs.declared.limits.Limits.{Limits}
 use Rattle.hs_limits.specs.declared.shape.Shape.{Shape}
@@ -33,13 +34,14 @@ use Rattle.hs_promise.specs.Answers.{IsEntry}
 use Rattle.hs_promise.specs.declared.status.Status.TheVariants as status
 use Rattle.hs_promise.specs.Run.{Ran, Script}
 use Rattle.hs_room.proofs.NotedLemmas.{Noting, mute_all, noting_all, noting_first, own_front}
-use Rattle.hs_room.proofs.NotesLemmas.{FewNotes, few_all, few_first}
-use Rattle.hs_room.specs.Room.{HasRoom, deletes_up_to, entries_most}
+use Rattle.hs_room.proofs.NotesLemmas.{few_all, few_first, first_lead, started_most}
+use Rattle.hs_room.specs.Room.{HasRoom, deletes_up_to, entries_most, started, starts_in}
 use Rattle.hs_room.specs.Room.{is_delete as asks_delete}
 use Rattle.hs_settled.proofs.CausesListLemmas.{all_at}
 use Rattle.hs_settled.proofs.CausesRunLemmas.{mute}
 use Rattle.hs_settled.proofs.DeletesRunLemmas.{may_front}
-use Rattle.hs_settled.proofs.EndsCountLemmas.{many, many-all, many-counted}
+use Rattle.hs_settled.proofs.BegunLemmas.{ranked, valid}
+use Rattle.hs_settled.proofs.EndsCountLemmas.{many, many-all, many-counted, sum_both, sum_from, sum_ones}
 use Rattle.hs_settled.proofs.KindLemmas.{lines_most}
 use Rattle.hs_settled.proofs.LedLemmas.{led_by}
 use Rattle.hs_settled.proofs.NotingLemmas.{all_append, all_weaker}
@@ -51,7 +53,8 @@ use Rattle.hs_settled.specs.Noted.{AllAreOwn, StandsFor}
 use Rattle.hs_settled.specs.Settled.{IsNoFirst}
 use Rattle.hs_standing.specs.Lists.{Lists, whole_from}
 use Rattle.hs_standing.specs.Opening.{opened_folds, opened_lists}
-use Rattle.hs_standing.specs.Run.{IsRunning, MayRun, RunOpens}
+use Rattle.hs_standing.proofs.TakenLemmas.{FoldsInMemory}
+use Rattle.hs_standing.specs.Run.{MayRun, RunBegins}
 use Rattle.hs_standing.specs.Standing.{AllMayKeep}
 use Rattle.hs_standing.specs.Start.{Start}
 use Rattle.hs_told.specs.InTurn.{AllMayCome, told_of}
@@ -138,14 +141,14 @@ module _ (start : Start) (core : Core) where
         let long : length (range_with_len 1 last) ≡ last = length-range_with_len 1 last in
         (is.0, (let low : n ≤ last = is.1 in omega (arith, low, long)))
 
-    module _ (keeps : KeepsPromise start core) (led : AllByRecursion IsNoFirst (told_of core)) (few : FewNotes core) (valid : IsValid start.entry) (shards : length start.entry.epochs ≡ start.set.shape.shards) where
+    module _ (keeps : KeepsPromise start core) (led : AllByRecursion IsNoFirst (told_of core)) (caps : ℕ → ℕ) (spare : ℕ) (few : (peer : ℕ) → peer < peer_count start.set.shape → note_count peer (told_of core) ≤ caps peer)
+        (sum : sum_from 0 (peer_count start.set.shape) caps ≤ peer_count start.set.shape + spare) (valid : IsValid start.entry) (shards : length start.entry.epochs ≡ start.set.shape.shards) where
       calm : IsCalm S start.entry last ran
       calm = record {
         answers = record { legal = keeps.answers.legal; replied = keeps.answers.replied; ordered = keeps.answers.ordered };
         deletes = deletes_of S start.entry ran keeps.deletes.told;
         entries = All-from_recursion (IsEntry S last) (told_of core) (all_weaker Stands (IsEntry S last) entry_is (told_of core) all_stand);
         led = led_by (told_of core) led;
-        notes = few.once;
       }
 
       of_lines : many (is_of_line (λ o. true) S) (told_of core) ≤ last
@@ -161,29 +164,31 @@ module _ (start : Start) (core : Core) where
       deletions = lines_most S (range_with_len 1 last) (told_of core) within keeps.answers.ordered.once is_deletion (λ (line : ℕ). asks_delete (start.commands line)) (λ i line at is.
           subst (λ k. asks_delete (start.commands k) ≡ true) (range_at 1 last i line at) (deletion_asked (start.commands (1 + i)) is))
 
-      pub has_room : HasRoom start core
+      pub has_room : HasRoom start spare core
       has_room = record {
         most = most;
         room = λ fits full.
             let over : core.limits.ops < length (told_of core) = its.ends.full full in
             let limit : core.limits.ops ≡ start.set.limits.ops = ap (λ (l : Limits). l.ops) its.limited in
-            let all : length (told_of core) ≤ entries_most start.commands start.set.shape last = most in
-            let room : entries_most start.commands start.set.shape last ≤ start.set.limits.ops = fits in
+            let all : length (told_of core) ≤ entries_most start.commands start.set.shape last + spare = most in
+            let room : entries_most start.commands start.set.shape last + spare ≤ start.set.limits.ops = fits in
             omega (arith, over, limit, all, room);
       }
         where
-          most : length (told_of core) ≤ entries_most start.commands start.set.shape last
-          most = calm_most S start.entry last last (deletes_up_to start.commands last) ran valid shards calm of_lines deletions
+          most : length (told_of core) ≤ entries_most start.commands start.set.shape last + spare
+          most =
+              let all = calm_most S start.entry last last (deletes_up_to start.commands last) (peer_count start.set.shape + spare) caps ran valid shards calm of_lines deletions few sum in
+              omega (arith, all)
 
 -- ---- behind each front of events
 
 -- the laws below, in one place
 pub record RoomLaws : Type 0 where
-  pub keeps : (start : Start) (found : Found) (events : Events) → RunOpens start found → AllMayKeep start (MayRun start) (first_core start.set found) events → (n : ℕ) → KeepsPromise start (steps (first_core start.set found) (take n events))
-  pub led : (start : Start) (found : Found) (events : Events) → RunOpens start found → AllMayKeep start (MayRun start) (first_core start.set found) events → AllByRecursion IsNoFirst (told_of (steps (first_core start.set found) events))
-  pub opens : (start : Start) (found : Found) → RunOpens start found → IsRunning start (open_whole start.set found)
+  pub keeps : (start : Start) (found : Found) (events : Events) → RunBegins start found → AllMayKeep start (MayRun start) (first_core start.set found) events → (n : ℕ) → KeepsPromise start (steps (first_core start.set found) (take n events))
+  pub led : (start : Start) (found : Found) (events : Events) → RunBegins start found → AllMayKeep start (MayRun start) (first_core start.set found) events → AllByRecursion IsNoFirst (told_of (steps (first_core start.set found) events))
+  pub memory : FoldsInMemory
 
-module _ (laws : RoomLaws) (start : Start) (found : Found) (events : Events) (opens : RunOpens start found) (may : AllMayKeep start (MayRun start) (first_core start.set found) events) (own : AllAreOwn start.commands (first_core start.set found) events) where
+module _ (laws : RoomLaws) (start : Start) (found : Found) (events : Events) (b : RunBegins start found) (may : AllMayKeep start (MayRun start) (first_core start.set found) events) (own : AllAreOwn start.commands (first_core start.set found) events) where
   come : AllMayCome start.commands (first_core start.set found) events
   come = all_come start events (first_core start.set found) may
 
@@ -191,16 +196,32 @@ module _ (laws : RoomLaws) (start : Start) (found : Found) (events : Events) (op
   mute_own n = own_front (mute start.commands) events (first_core start.set found) (mute_all start.commands events (first_core start.set found) come own) n
 
   first_noting : Noting (mute start.commands) start.set.shape start.set.limits (first_core start.set found)
-  first_noting = noting_first (mute start.commands) start.set.shape start.set.limits (opens_with start.set found) found.opened opens.well.many
+  first_noting = noting_first (mute start.commands) start.set.shape start.set.limits (opens_with start.set found) found.opened b.soundly.many
 
   pub noting_at : (n : ℕ) → Noting (mute start.commands) start.set.shape start.set.limits (steps (first_core start.set found) (take n events))
   noting_at n = noting_all (mute start.commands) start.set.shape start.set.limits (take n events) (first_core start.set found) first_noting (mute_own n)
 
-  few_at : (n : ℕ) → FewNotes (steps (first_core start.set found) (take n events))
-  few_at n = few_all (mute start.commands) start.set.shape start.set.limits opens.well.one (take n events) (first_core start.set found) first_noting (mute_own n)
-      (few_first (mute start.commands) start.set.shape start.set.limits opens.well.one (opens_with start.set found) found.opened opens.well.many opens.well.going)
+  abbrev caps : ℕ → ℕ → ℕ
+  caps n peer = 1 + started peer (first_core start.set found) (take n events)
 
-  pub room_at : (n : ℕ) → HasRoom start (steps (first_core start.set found) (take n events))
+  few_at : (n peer : ℕ) → peer < peer_count start.set.shape → note_count peer (told_of (steps (first_core start.set found) (take n events))) ≤ caps n peer
+  few_at n peer low =
+      let few =
+      few_all (mute start.commands) start.set.shape start.set.limits peer (take n events) (first_core start.set found) first_noting (mute_own n) (first_lead start.set found b.soundly.many (ranked start found b)) 0
+      (few_first start.set found b.soundly.many (ranked start found b) peer low) in
+      omega (arith, few)
+
+  sum_at : (n : ℕ) → sum_from 0 (peer_count start.set.shape) (caps n) ≤ peer_count start.set.shape + starts_in (first_core start.set found) (take n events)
+  sum_at n =
+      let both : sum_from 0 (peer_count start.set.shape) (caps n)
+      ≡ sum_from 0 (peer_count start.set.shape) (λ peer. 1) + sum_from 0 (peer_count start.set.shape) (λ peer. started peer (first_core start.set found) (take n events)) =
+      sum_both (λ peer. 1) (λ peer. started peer (first_core start.set found) (take n events)) 0 (peer_count start.set.shape) in
+      let ones = sum_ones 0 (peer_count start.set.shape) in
+      let rest = started_most (take n events) (first_core start.set found) 0 (peer_count start.set.shape) in
+      omega (arith, both, ones, rest)
+
+  pub room_at : (n : ℕ) → HasRoom start (starts_in (first_core start.set found) (take n events)) (steps (first_core start.set found) (take n events))
   room_at n =
-      has_room start (steps (first_core start.set found) (take n events)) (noting_at n) (laws.keeps start found events opens may n)
-      (laws.led start found (take n events) opens (may_front start events (first_core start.set found) may n)) (few_at n) (laws.opens start found opens).valid (shards_long start found opens.entry)
+      has_room start (steps (first_core start.set found) (take n events)) (noting_at n) (laws.keeps start found events b may n)
+      (laws.led start found (take n events) b (may_front start events (first_core start.set found) may n)) (caps n) (starts_in (first_core start.set found) (take n events)) (few_at n) (sum_at n)
+      (valid start found b laws.memory) (shards_long start found b.entry)

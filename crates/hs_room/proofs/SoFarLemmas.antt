@@ -13,12 +13,14 @@ use Rattle.hs_fold.specs.Shards.Setting.{Setting}
 use Rattle.hs_measure.proofs.EventLemmas.{all_come}
 use Rattle.hs_model.specs.declared.command.Command.{Command}
 use Rattle.hs_room.proofs.NotedLemmas.{Noting, mute_all, noting_all, noting_first, own_append, own_front}
-use Rattle.hs_room.specs.Room.{HasRoom, IsSoFar}
+use Rattle.hs_room.proofs.NotesLemmas.{starts_none}
+use Rattle.hs_room.specs.Room.{HasRoom, IsSoFar, starts_in}
 use Rattle.hs_settled.proofs.CausesRunLemmas.{mute}
 use Rattle.hs_settled.proofs.DeletesRunLemmas.{may_front}
 use Rattle.hs_settled.proofs.ListLemmas.{take_all}
 use Rattle.hs_settled.specs.Noted.{AllAreOwn}
-use Rattle.hs_standing.specs.Run.{MayRun, RunOpens}
+use Rattle.hs_standing.proofs.TakenLemmas.{run_begins}
+use Rattle.hs_standing.specs.Run.{MayRun, RunBegins, RunOpens}
 use Rattle.hs_standing.specs.Standing.{AllMayKeep}
 use Rattle.hs_standing.specs.Start.{Start}
 
@@ -29,7 +31,16 @@ may_append start core (e ∷ es) fs may more = (may.0, may_append start (step e.
 -- what the law of a core says of a run
 abbrev pub RunHasRoom : Type 0
 RunHasRoom = (start : Start) (found : Found) (events : Events) → RunOpens start found → AllMayKeep start (MayRun start) (first_core start.set found) events → AllAreOwn start.commands (first_core start.set found) events
-    → (n : ℕ) → HasRoom start (steps (first_core start.set found) (take n events))
+    → (n : ℕ) → HasRoom start 0 (steps (first_core start.set found) (take n events))
+
+-- so it does, since with one copy a shard no peer is started
+pub alone_room : ((start : Start) (found : Found) (events : Events) → RunBegins start found → AllMayKeep start (MayRun start) (first_core start.set found) events → AllAreOwn start.commands (first_core start.set found) events
+    → (n : ℕ) → HasRoom start (starts_in (first_core start.set found) (take n events)) (steps (first_core start.set found) (take n events))) → RunHasRoom
+alone_room law start found events opens may own n =
+    subst (λ k. HasRoom start k (steps (first_core start.set found) (take n events)))
+    (starts_none start.commands start.set.shape start.set.limits opens.well.one (take n events) (first_core start.set found)
+    (noting_first start.commands start.set.shape start.set.limits (opens_with start.set found) found.opened opens.well.many) (own_front start.commands events (first_core start.set found) own n))
+    (law start found events (run_begins start found opens) may own n)
 
 -- as it opens
 pub first_so_far : (start : Start) (found : Found) → RunOpens start found → IsSoFar start (first_core start.set found)
@@ -50,10 +61,10 @@ module _ (start : Start) (core : Core) (so : IsSoFar start core) where
     gives = steps_append (first_core start.set so.found) so.events es ∙ ap (λ (x : Core). steps x es) so.gives;
   }
 
-  pub so_has_room : RunHasRoom → HasRoom start core
+  pub so_has_room : RunHasRoom → HasRoom start 0 core
   so_has_room law =
-      subst (λ (x : Core). HasRoom start x) so.gives
-      (subst (λ (es : Events). HasRoom start (steps (first_core start.set so.found) es)) (take_all so.events) (law start so.found so.events so.opens so.may so.own (length so.events)))
+      subst (λ (x : Core). HasRoom start 0 x) so.gives
+      (subst (λ (es : Events). HasRoom start 0 (steps (first_core start.set so.found) es)) (take_all so.events) (law start so.found so.events so.opens so.may so.own (length so.events)))
 
   noting_by : (commands : ℕ → Option Command) → AllAreOwn commands (first_core start.set so.found) so.events → Noting commands start.set.shape start.set.limits core
   noting_by commands own =
@@ -79,5 +90,5 @@ module _ (start : Start) (core : Core) (so : IsSoFar start core) where
 
 -- the events of a call behind a core of the run
 module _ (law : RunHasRoom) (start : Start) (core : Core) (so : IsSoFar start core) (es : Events) (may : AllMayKeep start (MayRun start) core es) (own : AllAreOwn start.commands core es) where
-  pub front_room : (n : ℕ) → HasRoom start (steps core (take n es))
+  pub front_room : (n : ℕ) → HasRoom start 0 (steps core (take n es))
   front_room n = so_has_room start (steps core (take n es)) (more start core so (take n es) (may_front start es core may n) (own_front start.commands es core own n)) law

@@ -2,11 +2,9 @@
 use Rattle.std.proofs.Common.{◌≡◌, ◌∙◌, ℕ, ◌+◌, Bool, true, false, cond, List, [], ◌∷◌, length, refl}
 use Rattle.std.specs.BTreeMap.{insert_entry}
 use Rattle.std.specs.Ordering.{nat_cmp}
-use Rattle.hs_core_words.specs.Changing.{add_entry_tasks, change_group, change_pool, post, set_catalogue, set_viewed}
+use Rattle.hs_core_words.specs.Changing.{change_group, change_pool, post, set_catalogue, set_viewed}
 use Rattle.hs_core_words.specs.Looking.{group_of, shape_of}
-use Rattle.hs_core_words.specs.Operating.{add_read}
 use Rattle.hs_core_words.specs.State.{Core}
-use Rattle.hs_entry.specs.declared.entry.Entry.{Entry}
 use Rattle.hs_fold.proofs.Shards.PlaceLemmas.{length-set}
 use Rattle.hs_post.specs.declared.message.Message.{Message}
 use Rattle.hs_post.specs.Pool.{Pool, is_full, send}
@@ -26,9 +24,6 @@ pub record Aside (a b : Core) : Type 0 where
   pub entries : b.entries ≡ a.entries
 
 -- ---- how they are joined
-
-pub aside_same : (c : Core) → Aside c c
-aside_same c = record { limits = refl; shape = refl; groups = refl; peers = refl; pool = refl; line = refl; operations = refl; journal = refl; refused = refl; entries = refl }
 
 pub aside_both : (a b c : Core) → Aside a b → Aside b c → Aside a c
 aside_both a b c p q = record {
@@ -83,9 +78,3 @@ all_limit (m ∷ ms) pool = all_limit ms (send m pool) ∙ send_limit m pool
 
 pub aside_post : (ms : List Message) (c : Core) → Aside c (post ms c)
 aside_post ms c = aside_pool (send_all ms) c (all_limit ms c.pool)
-
-pub aside_tasks : (peer number : ℕ) (entry : Entry) (c : Core) → Aside c (add_entry_tasks peer number entry c)
-aside_tasks peer number entry c = record { limits = refl; shape = refl; groups = refl; peers = refl; pool = refl; line = refl; operations = refl; journal = refl; refused = refl; entries = refl }
-
-pub aside_read : (number line peer : ℕ) (c : Core) → Aside c (add_read number line peer c)
-aside_read number line peer c = record { limits = refl; shape = refl; groups = refl; peers = refl; pool = refl; line = refl; operations = refl; journal = refl; refused = refl; entries = refl }

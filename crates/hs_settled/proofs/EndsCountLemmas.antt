@@ -57,6 +57,20 @@ many_le p q (x ∷ xs) than = go (many_le p q xs (λ i y at yes. than (suc i) y 
     go rest false true e f = omega (arith, rest)
     go rest false false e f = omega (arith, rest)
 
+-- ---- of each number so many
+
+abbrev pub sum_from : ℕ → ℕ → (ℕ → ℕ) → ℕ
+sum_from n zero f = 0
+sum_from n (suc m) f = f n + sum_from (suc n) m f
+
+pub sum_ones : (n m : ℕ) → sum_from n m (λ k. 1) ≡ m
+sum_ones n zero = refl
+sum_ones n (suc m) = omega (arith, sum_ones (suc n) m)
+
+pub sum_both : (f g : ℕ → ℕ) (n m : ℕ) → sum_from n m (λ k. f k + g k) ≡ sum_from n m f + sum_from n m g
+sum_both f g n zero = refl
+sum_both f g n (suc m) = omega (arith, sum_both f g (suc n) m)
+
 -- ---- things that have numbers
 
 module _ {X : Type 0} (key : X → Option ℕ) where
@@ -94,6 +108,19 @@ module _ {X : Type 0} (key : X → Option ℕ) where
       keyed t xs ls (suc n)
       (λ i k at. let same : n + suc i ≡ suc n + i = omega arith in subst (λ m. many (at_key m) xs ≤ cond (t k) 1 0) same (caps (suc i) k at))
       (subst (λ m. many (from_key m) xs ≡ 0) last top) in
+      omega (arith, here, rest, splits n xs)
+
+  -- each number of these is had at most so often as is said of it, and no number is above them
+  pub keyed_sum : (f : ℕ → ℕ) (xs : List X) (n m : ℕ) → ((i : ℕ) → i < m → many (at_key (n + i)) xs ≤ f (n + i)) → many (from_key (n + m)) xs ≡ 0 → many (from_key n) xs ≤ sum_from n m f
+  keyed_sum f xs n zero caps top = let same : n + 0 ≡ n = omega arith in let is : many (from_key n) xs ≡ 0 = subst (λ k. many (from_key k) xs ≡ 0) same top in omega (arith, is)
+  keyed_sum f xs n (suc m) caps top =
+      let first : n + 0 ≡ n = omega arith in
+      let here : many (at_key n) xs ≤ f n = subst (λ k. many (at_key k) xs ≤ f k) first (caps zero (omega arith)) in
+      let last : n + suc m ≡ suc n + m = omega arith in
+      let rest : many (from_key (suc n)) xs ≤ sum_from (suc n) m f =
+      keyed_sum f xs (suc n) m
+      (λ i low. let same : n + suc i ≡ suc n + i = omega arith in subst (λ k. many (at_key k) xs ≤ f k) same (caps (suc i) (omega (arith, low))))
+      (subst (λ k. many (from_key k) xs ≡ 0) last top) in
       omega (arith, here, rest, splits n xs)
 
 -- ---- totals

@@ -70,7 +70,7 @@ parts_long taken left script is =
 
 abbrev pub Short : Type 0
 Short = (S : Script) (script : List ℕ) (entry : Store) (last : ℕ) (r : Ran) → ((n : ℕ) → S.commands n ≡ commands script n) → IsValid entry → length entry.epochs ≡ S.set.shape.shards
-    → IsCalm S entry last r → length r.journal ≤ entry_bound S (lines_of script)
+    → IsCalm S entry last r → ((peer : ℕ) → note_count peer r.journal ≤ 1) → length r.journal ≤ entry_bound S (lines_of script)
 
 module _ (short : Short) (S : Script) (r : Ran) (script left : List ℕ) (says : (n : ℕ) → S.commands n ≡ commands script n) (its : HasItsCause S r) (ends : Ends r script left) (told : TellsAsPromised S r) (may : MayEndWell S script r) where
   noted : (peer : ℕ) → note_count peer (r.journal ++ r.refused) ≤ 1
@@ -87,8 +87,7 @@ module _ (short : Short) (S : Script) (r : Ran) (script left : List ℕ) (says :
     entries = All-from_recursion (IsEntry S r.line) (r.journal ++ r.refused)
         (all_append (IsEntry S r.line) r.journal r.refused (recursion_from_All (IsEntry S r.line) r.journal told.entries) (recursion_from_All (IsEntry S r.line) r.refused refused));
     led = told.led;
-    notes = noted;
-  })
+  }) noted
 
   by_status : (x : Status) → r.ending ≡ x → Cause S r x → HasEnded x (lines_of script) r.line ends.taken left → EndsWell S r
   by_status status.Done is cause ended = inl is

@@ -1,10 +1,9 @@
 -- How many entries of lines, and how many notes, a journal has.
-use Rattle.std.proofs.Common.{◌≡◌, ◌∙◌, sym, ap, subst, ◌⊎◌, inl, inr, ℕ, zero, suc, ◌+◌, ◌-◌, ◌<◌, ◌≤◌, ◌==◌, Bool, true, false, cond, List, [], ◌∷◌, length, Option, Some, None, IsSome, refl, arith, tests, is_none, is_some, bytes_eq, codes, count_by, nat_le, replicate, slice_get}
-use Rattle.std.proofs.lemmas.List.{length-replicate}
+use Rattle.std.proofs.Common.{◌≡◌, ◌∙◌, sym, ap, subst, ◌⊎◌, inl, inr, ℕ, zero, suc, ◌+◌, ◌-◌, ◌<◌, ◌≤◌, ◌==◌, Bool, true, false, cond, List, [], ◌∷◌, length, Option, Some, None, IsSome, refl, arith, tests, is_none, is_some, bytes_eq, codes, count_by, nat_le, slice_get}
 use Rattle.std.proofs.lemmas.Option.{slice_get_within}
 use Rattle.std.specs.List.{AllByRecursion}
 use Rattle.std.specs.Option.{option_map, option_map_or}
-use Rattle.hs_settled.proofs.EndsCountLemmas.{at_key, from_key, keyed, many, many-all, many-counted, many_le, many_none, many_once, one}
+use Rattle.hs_settled.proofs.EndsCountLemmas.{at_key, from_key, keyed, keyed_sum, many, many-all, many-counted, many_le, many_none, many_once, one, sum_from}
 use Rattle.hs_settled.proofs.DoneLemmas.{is_done, is_down}
 use Rattle.hs_settled.proofs.ScriptLemmas.{deletes, line_says_delete}
 use Rattle.hs_settled.proofs.StepLemmas.{is_delete, is_deletion, is_entered, is_of_line, is_swept}
@@ -243,19 +242,15 @@ module _ (S : Script) (last : ℕ) (entries : List JournalEntry) (each : AllByRe
       by_parts (who.Shard g) m d r is f = cc f
       by_parts who.Store m d r is f = by_told r is.1 f
 
-  pub all_downs : ((peer : ℕ) → note_count peer entries ≤ 1) → many is_down entries ≤ peer_count S.set.shape
-  all_downs notes =
-      let peers : List ℕ = replicate (peer_count S.set.shape) 0 in
-      let long : length {A = ℕ} (replicate (peer_count S.set.shape) 0) ≡ peer_count S.set.shape = length-replicate (peer_count S.set.shape) 0 in
+  pub all_downs : (caps : ℕ → ℕ) → ((peer : ℕ) → peer < peer_count S.set.shape → note_count peer entries ≤ caps peer) → many is_down entries ≤ sum_from 0 (peer_count S.set.shape) caps
+  all_downs caps notes =
       let all : many is_down entries ≤ many (from_key note_of 0) entries = many_le is_down (from_key note_of 0) entries (λ i e at is. downs e is) in
-      let most : many (from_key note_of 0) entries ≤ many (λ (x : ℕ). true) (replicate (peer_count S.set.shape) 0) =
-      keyed note_of (λ (x : ℕ). true) entries (replicate (peer_count S.set.shape) 0) 0
-      (λ i x at.
+      let most : many (from_key note_of 0) entries ≤ sum_from 0 (peer_count S.set.shape) caps =
+      keyed_sum note_of caps entries 0 (peer_count S.set.shape)
+      (λ i low_i.
       let counted : many (is_note (0 + i)) entries ≡ note_count (0 + i) entries = many-counted (is_note (0 + i)) entries in
       let fewer : many (at_key note_of (0 + i)) entries ≤ many (is_note (0 + i)) entries = many_le (at_key note_of (0 + i)) (is_note (0 + i)) entries (λ j e there is. is_noted (0 + i) e is) in
-      let once : note_count (0 + i) entries ≤ 1 = notes (0 + i) in
-      omega (arith, counted, fewer, once))
-      (subst (λ k. many (from_key note_of (0 + k)) entries ≡ 0) (sym long)
-      (many_none (from_key note_of (0 + peer_count S.set.shape)) entries (λ i e at is. low e (at_each (IsEntry S last) entries each i e at) is))) in
-      let whole : many (λ (x : ℕ). true) (replicate (peer_count S.set.shape) 0) ≡ length (replicate (peer_count S.set.shape) 0) = many-all (replicate (peer_count S.set.shape) 0) in
-      omega (arith, all, most, whole, long)
+      let few : note_count (0 + i) entries ≤ caps (0 + i) = notes (0 + i) (omega (arith, low_i)) in
+      omega (arith, counted, fewer, few))
+      (many_none (from_key note_of (0 + peer_count S.set.shape)) entries (λ i e at is. low e (at_each (IsEntry S last) entries each i e at) is)) in
+      omega (arith, all, most)

@@ -1,11 +1,12 @@
 -- How many entries a journal has.
 use Rattle.std.proofs.Common.{◌≡◌, ◌∙◌, ap, subst, true, ℕ, ◌+◌, ◌-◌, ◌*◌, ◌<◌, ◌≤◌, List, length, arith, slice_index}
 use Rattle.std.proofs.lemmas.List.Elements.{recursion_from_All}
-use Rattle.hs_settled.proofs.EndsCountLemmas.{AllAbove, above_at, above_each, many, times, times-is, times-more, times-sum, times_le, total, total_least, total_most}
+use Rattle.hs_settled.proofs.EndsCountLemmas.{AllAbove, above_at, above_each, many, sum_from, sum_ones, times, times-is, times-more, times-sum, times_le, total, total_least, total_most}
 use Rattle.hs_settled.proofs.DoneLemmas.{came_first, done_swept, is_done}
 use Rattle.hs_settled.proofs.StepLemmas.{Fits, Steps, is_delete, is_entered, is_of_line, is_swept, journal_steps}
 use Rattle.hs_settled.specs.Calm.{IsCalm}
 use Rattle.hs_events.specs.Taken.{peer_count}
+use Rattle.hs_journal.specs.Notes.{note_count}
 use Rattle.hs_laws.specs.Valid.{IsValid}
 use Rattle.hs_model.specs.Run.{run}
 use Rattle.hs_model.specs.Store.{Store}
@@ -105,19 +106,20 @@ bound_is n k =
     let same : times (2 * n + 1) k ≡ times (n + (n + 1)) k = ap (λ m. times m k) two in
     omega (arith, last, both, rest, product, same)
 
--- of so many lines and so many deletions at most
-pub calm_most : (S : Script) (entry : Store) (last lines deletes : ℕ) (r : Ran) → IsValid entry → length entry.epochs ≡ S.set.shape.shards → IsCalm S entry last r
+-- of so many lines, deletions and notes at most
+pub calm_most : (S : Script) (entry : Store) (last lines deletes notes : ℕ) (caps : ℕ → ℕ) (r : Ran) → IsValid entry → length entry.epochs ≡ S.set.shape.shards → IsCalm S entry last r
     → many (is_of_line (λ o. true) S) r.journal ≤ lines → many (is_delete S) r.journal ≤ deletes
-    → length r.journal ≤ lines + (2 * S.set.shape.shards + 1) * (deletes + 2) + peer_count S.set.shape
-calm_most S entry last lines deletes r valid shards calm of_lines deletions =
+    → ((peer : ℕ) → peer < peer_count S.set.shape → note_count peer r.journal ≤ caps peer) → sum_from 0 (peer_count S.set.shape) caps ≤ notes
+    → length r.journal ≤ lines + (2 * S.set.shape.shards + 1) * (deletes + 2) + notes
+calm_most S entry last lines deletes notes caps r valid shards calm of_lines deletions noted few =
     let kinds = all_kinds S last r.journal fits.each in
-    let downs = all_downs S last r.journal fits.each calm.notes in
+    let downs = all_downs S last r.journal fits.each caps noted in
     let wider : times S.set.shape.shards (many (is_delete S) r.journal + 2) ≤ times S.set.shape.shards (deletes + 2) =
     times_le S.set.shape.shards (many (is_delete S) r.journal + 2) (deletes + 2) (omega (arith, deletions)) in
     let enters : many is_entered r.journal ≤ times S.set.shape.shards (many (is_delete S) r.journal + 2) = subst (λ n. many is_entered r.journal ≤ times n (many (is_delete S) r.journal + 2)) shards left.enters in
     let sweeps : many is_swept r.journal ≤ times S.set.shape.shards (many (is_delete S) r.journal + 2) = subst (λ n. many is_swept r.journal ≤ times n (many (is_delete S) r.journal + 2)) shards left.sweeps in
     let ends = left.ends in
-    omega (arith, kinds, of_lines, deletions, downs, wider, enters, sweeps, ends, bound_is S.set.shape.shards (deletes + 2))
+    omega (arith, kinds, of_lines, deletions, downs, few, wider, enters, sweeps, ends, bound_is S.set.shape.shards (deletes + 2))
   where
     fits : Fits S last entry r.journal
     fits = record { valid = valid; shards = shards; legal = calm.answers.legal; each = recursion_from_All (IsEntry S last) r.journal calm.entries; led = calm.led }
@@ -136,8 +138,9 @@ calm_most S entry last lines deletes r valid shards calm of_lines deletions =
 
 -- of a script
 pub calm_short : (S : Script) (script : List ℕ) (entry : Store) (last : ℕ) (r : Ran) → ((n : ℕ) → S.commands n ≡ commands script n) → IsValid entry → length entry.epochs ≡ S.set.shape.shards
-    → IsCalm S entry last r → length r.journal ≤ entry_bound S (lines_of script)
-calm_short S script entry last r says valid shards calm =
-    calm_most S entry last (length (lines_of script)) (delete_count (lines_of script)) r valid shards calm
+    → IsCalm S entry last r → ((peer : ℕ) → note_count peer r.journal ≤ 1) → length r.journal ≤ entry_bound S (lines_of script)
+calm_short S script entry last r says valid shards calm notes =
+    calm_most S entry last (length (lines_of script)) (delete_count (lines_of script)) (peer_count S.set.shape) (λ peer. 1) r valid shards calm
     (all_lines S (lines_of script) says r.journal calm.answers.ordered.named calm.answers.ordered.once)
     (all_deletes S (lines_of script) says r.journal calm.answers.ordered.named calm.answers.ordered.once)
+    (λ peer low. notes peer) (let all = sum_ones 0 (peer_count S.set.shape) in omega (arith, all))

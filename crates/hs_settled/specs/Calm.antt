@@ -1,7 +1,6 @@
 -- What a journal is where no disk failed.
 use Rattle.std.specs.List.{AllByRecursion}
-use Rattle.std.specs.Prelude.{All, List, ℕ, ◌++◌, ◌≡◌, ◌≤◌}
-use Rattle.hs_journal.specs.Notes.{note_count}
+use Rattle.std.specs.Prelude.{All, List, ℕ, ◌++◌, ◌≡◌}
 use Rattle.hs_journal.specs.declared.entry.JournalEntry.{JournalEntry}
 use Rattle.hs_journal.specs.declared.entry.Who.TheVariants as who
 use Rattle.hs_model.specs.Store.{Store}
@@ -22,10 +21,9 @@ AreLed entries = AllByRecursion IsNotAlone entries
 abbrev pub whole_of : Ran → Ran
 whole_of r = record r { journal = r.journal ++ r.refused }
 
--- a journal is answered from a store on, its deletions are told as promised, each of its entries stands for something, shard 0 is led by lines, and no peer has two notes
+-- a journal is answered from a store on, its deletions are told as promised, each of its entries stands for something, and shard 0 is led by lines
 pub record IsCalm (S : Script) (entry : Store) (last : ℕ) (r : Ran) : Type 0 where
   pub answers : Answers S entry r.journal
   pub deletes : Deletes S entry r
   pub entries : All (IsEntry S last) r.journal
   pub led : AreLed r.journal
-  pub notes : (peer : ℕ) → note_count peer r.journal ≤ 1

@@ -1,6 +1,7 @@
 //! How many entries a journal has where no disk failed.
 ghost use Rattle.std.specs.Prelude.{◌≡◌, ◌≤◌, ℕ, List, length};
 ghost use Rattle.hs_settled.specs.Calm.{IsCalm};
+ghost use Rattle.hs_journal.specs.Notes.{note_count};
 ghost use Rattle.hs_laws.specs.Valid.{IsValid};
 ghost use Rattle.hs_model.specs.Store.{Store};
 ghost use Rattle.hs_promise.specs.Completes.{entry_bound};
@@ -15,6 +16,6 @@ pub fn a_calm_journal_is_short()
     ensures { (S : Script) (script : List ℕ) (entry : Store) (last : ℕ) (r : Ran)
         → ((n : ℕ) → S.commands n ≡ commands script n)
         → IsValid entry → length entry.epochs ≡ S.set.shape.shards
-        → IsCalm S entry last r →
+        → IsCalm S entry last r → ((peer : ℕ) → note_count peer r.journal ≤ 1) →
         length r.journal ≤ entry_bound S (lines_of script) }
 {}

@@ -2,11 +2,12 @@ use Rattle.hs_measure.proofs.AlongLemmas.{LineLaws}
 use Rattle.hs_room.proofs.CallLemmas.{CallLaws}
 use Rattle.hs_room.proofs.line.each_line_has_room.Goals as goal
 use Rattle.hs_room.proofs.LineLemmas.{line_ends, line_room}
+use Rattle.hs_room.proofs.SoFarLemmas.{alone_room}
 
 pub returns-clause-keeps : goal.returns-clause-keeps
 returns-clause-keeps g c = λ start line asked before now old new disks left result told its so next asks later runs.
     let laws : CallLaws = record {
-      room = c.a_journal_has_room.ensures.events;
+      room = alone_room c.a_journal_has_room.ensures.events;
       told = c.each_report_tells_its_block.ensures.told;
       numbered = c.each_block_is_of_an_entry.ensures.opens;
       stays = c.each_block_is_of_an_entry.ensures.event;
@@ -22,7 +23,7 @@ returns-clause-keeps g c = λ start line asked before now old new disks left res
 pub returns-clause-ends : goal.returns-clause-ends
 returns-clause-ends g c = λ start line asked before now old new disks left result told its so next asks later runs fits.
     let laws : CallLaws = record {
-      room = c.a_journal_has_room.ensures.events;
+      room = alone_room c.a_journal_has_room.ensures.events;
       told = c.each_report_tells_its_block.ensures.told;
       numbered = c.each_block_is_of_an_entry.ensures.opens;
       stays = c.each_block_is_of_an_entry.ensures.event;

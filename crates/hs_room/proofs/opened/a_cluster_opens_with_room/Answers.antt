@@ -2,6 +2,7 @@ use Rattle.hs_measure.proofs.OpenedLemmas.{OpeningLaws}
 use Rattle.hs_room.proofs.CallLemmas.{CallLaws}
 use Rattle.hs_room.proofs.opened.a_cluster_opens_with_room.Goals as goal
 use Rattle.hs_room.proofs.OpenedLemmas.{opened_ends, opened_room}
+use Rattle.hs_room.proofs.SoFarLemmas.{alone_room}
 
 pub returns-clause-keeps : goal.returns-clause-keeps
 returns-clause-keeps g c = λ set commands span cluster done told shape one names nobody opens going sound.
@@ -12,7 +13,7 @@ returns-clause-keeps g c = λ set commands span cluster done told shape one name
       fresh = c.a_scripts_lines_are_new.ensures.opening;
     } in
     let laws : CallLaws = record {
-      room = c.a_journal_has_room.ensures.events;
+      room = alone_room c.a_journal_has_room.ensures.events;
       told = c.each_report_tells_its_block.ensures.told;
       numbered = c.each_block_is_of_an_entry.ensures.opens;
       stays = c.each_block_is_of_an_entry.ensures.event;
@@ -29,7 +30,7 @@ returns-clause-ends g c = λ set commands span cluster done told shape one names
       fresh = c.a_scripts_lines_are_new.ensures.opening;
     } in
     let laws : CallLaws = record {
-      room = c.a_journal_has_room.ensures.events;
+      room = alone_room c.a_journal_has_room.ensures.events;
       told = c.each_report_tells_its_block.ensures.told;
       numbered = c.each_block_is_of_an_entry.ensures.opens;
       stays = c.each_block_is_of_an_entry.ensures.event;
