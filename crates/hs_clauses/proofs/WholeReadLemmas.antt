@@ -344,7 +344,7 @@ module _ (below : LawsBelow) (start : Start) (found : Found) (b : RunBegins star
     at_home = at_home (first_core start.set found)
         (fine_opens (new_core start.set.shape start.set.limits (opens_with start.set found) found.opened) (new_fine start.set.shape start.set.limits (opens_with start.set found) found.opened));
     settled = λ g low. fold_from start.set (opened_lists start.set found) 0 start.set.shape.shards g low ∙ ap (λ m. catalogue_of (shard_in start.set m) (opened_list start.set found m)) (zero_left g)
-    ∙ ap (λ es. catalogue_of (shard_in start.set g) es) (sym (took_first start.set found (whole_opens start.set found b.soundly) opened.0 opened.1 g low));
+        ∙ ap (λ es. catalogue_of (shard_in start.set g) es) (sym (took_first start.set found (whole_opens start.set found b.soundly) opened.0 opened.1 g low));
   }
 
 -- from the opening on

@@ -91,7 +91,5 @@ pub(crate) fn copy_key<A: Addresser, K: Sink, D: Disk + Drop>(
         (K.got sink.new, K.faults sink.new) source)) }
 {
     a_root_is_copied::<D>();
-    run_copy(
-        alloc, naming, shape, second, key, every, sink, disks, watch,
-    )
+    run_copy(alloc, naming, shape, second, key, every, sink, disks, watch)
 }
