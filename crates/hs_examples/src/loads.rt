@@ -1,6 +1,8 @@
 //! Loads over disks in memory.
+use crate::replay::{finds_changed, replays};
 use crate::tests::words_of;
 use hs_block::ShaNames;
+use hs_limits::Shape;
 use hs_ports::{Disk, ListSink, ListSource, MemoryDisk, Watch};
 use hs_promise::Outcome;
 use hs_top::{exit_code, hydra, load_with};
@@ -32,6 +34,17 @@ fn run<H: Threads + Wait + Sync, D: Disk + Drop + Send>(
     text: &str,
     disks: &mut Vec<D>,
 ) -> Result<(u8, Vec<u8>), AllocError> {
+    let (outcome, text) = run_whole(alloc, rt, text, disks)?;
+    Ok((exit_code(&outcome.status), text))
+}
+
+/// Runs a command over the disks: its outcome, and what it put.
+fn run_whole<H: Threads + Wait + Sync, D: Disk + Drop + Send>(
+    alloc: Global,
+    rt: &H,
+    text: &str,
+    disks: &mut Vec<D>,
+) -> Result<(Outcome, Vec<u8>), AllocError> {
     let words = words_of(alloc, text)?;
     let mut source = ListSource::new(alloc, Vec::new(alloc), Vec::new(alloc));
     let mut sink = ListSink::new(alloc, Vec::new(alloc));
@@ -46,10 +59,7 @@ fn run<H: Threads + Wait + Sync, D: Disk + Drop + Send>(
         disks,
         &mut watch,
     );
-    Ok((
-        exit_code(&outcome.status),
-        Vec::from_slice(alloc, sink.bytes())?,
-    ))
+    Ok((outcome, Vec::from_slice(alloc, sink.bytes())?))
 }
 
 const FOUR: &[u8] = b"writer 0 files 20 kept 15
@@ -88,9 +98,17 @@ fn four_writers_load_four_shards(rt: HostRuntime) -> Result<(), Fail> {
     let alloc = rt.alloc();
     let mut disks = blank(alloc, 8)?;
     let load = "load d 4 2 --seed 7 --writers 4";
-    let (code, text) = run(alloc, &rt, load, &mut disks)?;
-    assert_eq!(rt; code, 0);
+    let (outcome, text) = run_whole(alloc, &rt, load, &mut disks)?;
+    assert_eq!(rt; exit_code(&outcome.status), 0);
     assert_eq!(rt; text.as_slice(), FOUR);
+    // Each entry is a deed where it stands, and a changed one is none.
+    let shape = Shape {
+        shards: 4,
+        copies: 2,
+    };
+    let entries = outcome.journal.entries();
+    assert_eq!(rt; replays(alloc, shape, entries).unwrap(), true);
+    assert_eq!(rt; finds_changed(alloc, shape, entries).unwrap(), true);
     // All of it stands in the store, and nothing is left to sweep.
     let (code, text) = run(alloc, &rt, "audit d 4 2", &mut disks)?;
     assert_eq!(rt; code, 0);
@@ -106,12 +124,21 @@ fn four_writers_load_four_shards(rt: HostRuntime) -> Result<(), Fail> {
 #[test]
 fn a_load_puts_the_same_text_at_each_run(rt: HostRuntime) -> Result<(), Fail> {
     let alloc = rt.alloc();
-    for _ in 0..10 {
+    let shape = Shape {
+        shards: 2,
+        copies: 2,
+    };
+    for round in 0..10 {
         let mut disks = blank(alloc, 4)?;
         let load = "load d 2 2 --seed 1 --writers 8 --files 25";
-        let (code, text) = run(alloc, &rt, load, &mut disks)?;
-        assert_eq!(rt; code, 0);
+        let (outcome, text) = run_whole(alloc, &rt, load, &mut disks)?;
+        assert_eq!(rt; exit_code(&outcome.status), 0);
         assert_eq!(rt; text.as_slice(), EIGHT);
+        // Of the first run each entry is a deed where it stands.
+        if round == 0 {
+            let entries = outcome.journal.entries();
+            assert_eq!(rt; replays(alloc, shape, entries).unwrap(), true);
+        }
     }
     Ok(())
 }
