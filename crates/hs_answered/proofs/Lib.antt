@@ -3,6 +3,7 @@ pub mod CollisionLemmas
 pub mod CoreLemmas
 pub mod EarlyLemmas
 mod MemoryLemmas
+pub mod PlainLemmas
 pub mod RefusalLemmas
 mod RootLemmas
 pub mod ShownLemmas

@@ -13,6 +13,7 @@ use Rattle.hs_model.proofs.Members.{among_from_member, at_is_same, same_from}
 use Rattle.hs_model.proofs.SetLemmas.{address_total}
 use Rattle.hs_model.specs.Reach.{is_among, is_same}
 use Rattle.hs_model.specs.Store.{address_cmp}
+pub use Rattle.hs_shard.proofs.PlainLemmas.{sorted_none}
 
 abbrev IsBelowAll : Address → List Address → Type 0
 IsBelowAll a ks = AllByRecursion (λ y. address_cmp a y ≡ Less) ks
@@ -107,10 +108,6 @@ sorted-insert (x ∷ ks) k s = go (address_cmp k x) refl (sorted-insert ks k s.1
     go Greater e ih = (all-insert (λ y. address_cmp x y ≡ Less) ks k s.0 (address_total.antisymm x k ∙ ap (λ o. ordering_reverse o) e), ih)
 
 -- ---- all of some
-
-pub sorted_none : IsStrictlySortedBy address_cmp []
-unfolding IsStrictlySortedBy
-sorted_none = tt
 
 pub among-ascending : (xs : List Address) (a : Address) → is_among (ascending xs) a ≡ is_among xs a
 among-ascending [] a = refl

@@ -4,19 +4,18 @@ ghost use Rattle.hs_audit.specs.Rereading.{AreReread, AreStill, AreViewsOf, IsFi
 ghost use Rattle.hs_limits.specs.Limits.{greatest_limits};
 ghost use Rattle.hs_limits.specs.Shape.{IsShape};
 ghost use Rattle.hs_model.specs.Plain.{IsPlain, plain_of};
-ghost use Rattle.hs_model.specs.Store.{empty_store};
 ghost use Rattle.hs_shard.specs.Plain.{add_shard};
 ghost use Rattle.hs_taking.specs.Disks.{seen_as};
 
 use crate::AuditFault;
 use crate::reading::take_shard;
 use hs_block::Addresser;
-use hs_limits::{ListOf, Shape};
+use hs_limits::Shape;
 use hs_model::PlainStore;
 use hs_peerlog::PeerView;
 use hs_ports::Disk;
-use hs_shard::Catalogue;
-use std::alloc::{AllocError, Global};
+use hs_shard::{Catalogue, empty_store};
+use std::alloc::Global;
 
 /// The store that the logs of all shards amount to, without the blocks' data. It has also the root
 /// records that count in no epoch any more.
@@ -70,24 +69,4 @@ fn add_shard(mut catalogue: Catalogue, store: &mut PlainStore) -> bool
     ensures shape { result ≡ true → store.new.shape ≡ store.old.shape }
 {
     catalogue.plain(store).is_ok()
-}
-
-/// A store of a shape with nothing in it.
-fn empty_store(alloc: Global, shape: Shape) -> Result<PlainStore, AllocError>
-    requires { IsShape shape }
-    ensures store { IfOk result (λ store. plain_of store ≡ empty_store shape.shards) }
-    ensures plain { IfOk result IsPlain }
-    ensures shape { IfOk result (λ store. store.shape ≡ shape) }
-{
-    let shards = usize::from(shape.shards);
-    let epochs = vec![in alloc; 1; shards]?;
-    let swept = vec![in alloc; 1; shards]?;
-    Ok(PlainStore {
-        shape,
-        blocks: ListOf::new(alloc),
-        given: ListOf::new(alloc),
-        roots: ListOf::new(alloc),
-        epochs: ListOf::from_vec(epochs),
-        swept: ListOf::from_vec(swept),
-    })
 }

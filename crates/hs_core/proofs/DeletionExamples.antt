@@ -1,9 +1,12 @@
 -- Scripts of the rules on deletion runs, computed: what the journal tells.
-use Rattle.std.proofs.Common.{◌≡◌, ℕ, List, [], ◌∷◌, Option, Some, None, refl, take, ◌++◌}
-use Rattle.hs_core.proofs.Driving.{Leaves, Says, does_lines, lists_of, opened}
+use Rattle.std.proofs.Common.{◌≡◌, ℕ, List, [], ◌∷◌, Option, Some, None, length, refl, take, ◌++◌}
+use Rattle.hs_core.proofs.Driving.{Leaves, Says, does_lines, lists_of, opened, tail_name}
+use Rattle.hs_core_words.specs.Looking.{catalogue_of}
+use Rattle.hs_core_words.specs.Plain.{plain_store}
 use Rattle.hs_desk.specs.declared.fault.CoreFault.TheVariants as fault
 use Rattle.hs_journal.specs.declared.entry.Who.{Who}
 use Rattle.hs_journal.specs.declared.entry.Who.TheVariants as who
+use Rattle.hs_limits.specs.declared.address.Address.{Address}
 use Rattle.hs_limits.specs.Block.{spell}
 use Rattle.hs_limits.specs.Limits.{greatest_limits}
 use Rattle.hs_limits.specs.Reading.{addresses, block_at, read_block}
@@ -55,6 +58,33 @@ dropped_root_told =
 dropped_root : Says (1, 1) greatest_limits dropped_root_lines dropped_root_told (None)
 unfolding gained addresses block_at read_block no_handle_in stale_in helds_of deed_of seats_after asked_for begin block_entry compared data_of go is_same_block judged_in mark_entry on_bytes on_effect refusals_of asked_block least_epoch
 dropped_root = record { told = refl; ended = refl }
+
+-- what the shards have behind the drop, as one plain store
+abbrev one : Address
+one = tail_name (spell (record { pointers = []; bytes = 97 ∷ [] }))
+
+dropped_root_plain : plain_store (does_lines 1 (take 7 dropped_root_lines) (opened (1, 1) greatest_limits)).core ≡ record {
+  blocks = (one, record { pointers = []; bytes = []; born = 1 }) ∷ [];
+  given = (one, 1) ∷ [];
+  roots = record { key = k; address = one; dropped = Some 1 } ∷ [];
+  epochs = 1 ∷ [];
+  swept = 1 ∷ [];
+  sessions = [];
+}
+unfolding gained addresses block_at read_block no_handle_in stale_in helds_of deed_of seats_after asked_for begin block_entry compared data_of go is_same_block judged_in mark_entry on_bytes on_effect refusals_of asked_block least_epoch
+dropped_root_plain = refl
+
+-- where the second run has entered the shard has the root still, which counts no more
+abbrev past_root_lines : List Command
+past_root_lines = take 9 dropped_root_lines ++ command.Client op.Delete ∷ command.Turn 0 ∷ command.Turn 0 ∷ []
+
+past_root : length (catalogue_of 0 (does_lines 1 past_root_lines (opened (1, 1) greatest_limits)).core).roots ≡ 1
+unfolding gained addresses block_at read_block no_handle_in stale_in helds_of deed_of seats_after asked_for begin block_entry compared data_of go is_same_block judged_in mark_entry on_bytes on_effect refusals_of asked_block least_epoch
+past_root = refl
+
+past_root_plain : (plain_store (does_lines 1 past_root_lines (opened (1, 1) greatest_limits)).core).roots ≡ []
+unfolding gained addresses block_at read_block no_handle_in stale_in helds_of deed_of seats_after asked_for begin block_entry compared data_of go is_same_block judged_in mark_entry on_bytes on_effect refusals_of asked_block least_epoch
+past_root_plain = refl
 
 -- open a / write a 63 / settle / write a 70 h0 / settle / delete / settle / delete / turn 0 x8 / write a 63 / turn 0 x3 / write a 70 h2 / turn 0 x3 / se
 abbrev undelete_lines : List Command

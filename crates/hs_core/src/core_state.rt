@@ -5,10 +5,12 @@ ghost use Rattle.hs_core_words.specs.Calls.{GivesUp, GoesOn, IsNextLine, Steps, 
 ghost use Rattle.hs_core_state.specs.Keeping.{IsCore};
 ghost use Rattle.hs_core_words.specs.Looking.{catalogue_of, first_job, front_of, known_of, sealed_of, status_of, oldest_message, open_work};
 ghost use Rattle.hs_core_words.specs.Opening.{open_core};
+ghost use Rattle.hs_core_words.specs.Plain.{plain_store};
 ghost use Rattle.hs_core_words.specs.Records.{HasRecordRoom};
 ghost use Rattle.hs_desk.specs.declared.fault.CoreFault.TheVariants as fault;
 ghost use Rattle.hs_limits.specs.Shape.{IsShape};
 ghost use Rattle.hs_members.specs.Members.{IsPeer, IsShard};
+ghost use Rattle.hs_model.specs.Plain.{IsPlain, plain_of};
 ghost use Rattle.hs_tokens.specs.Seats.{held_at, seat_of};
 
 use crate::step::step;
@@ -17,6 +19,7 @@ use hs_core_words::Event;
 use hs_desk::{CoreFault, Job};
 use hs_journal::{Journal, JournalEntry};
 use hs_limits::{Held, Limits, ListOf, Name, PeerStatus, Shape};
+use hs_model::PlainStore;
 use hs_shard::Catalogue;
 use std::alloc::Global;
 use std::marker::Model;
@@ -91,6 +94,22 @@ impl Core {
         ensures room { OnOk result (HasRecordRoom self.new) }
     {
         step(&mut self.state, event, moment)
+    }
+
+    /// What all shards have, as one plain store without the blocks' data and without sessions. Root
+    /// records that count in no epoch any more are left out, as an enter leaves them out. The only
+    /// fault is NoMemory.
+    pub fn plain(&mut self) -> Result<PlainStore, CoreFault>
+        ensures ok { IfOk result (λ store. plain_of store ≡ plain_store self.old) }
+        ensures plain { IfOk result IsPlain }
+        ensures shape { IfOk result (λ store. store.shape ≡ self.old.members.shape) }
+        ensures only { IsOkUnless result fault.NoMemory }
+        ensures same { self.new ≡ self.old }
+    {
+        match self.state.plain() {
+            Ok(store) => Ok(store),
+            Err(_) => Err(CoreFault::NoMemory),
+        }
     }
 
     /// The line of the last client's operation, 0 before the first. It takes no memory.

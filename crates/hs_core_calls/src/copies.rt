@@ -133,6 +133,13 @@ fn sent_again(alloc: Global) -> Result<Told, CoreFault> {
     send_again(&mut core)
 }
 
+/// How many blocks, roots and epochs the plain store of a core has that opened over blank disks.
+fn plain(alloc: Global) -> Result<(usize, usize, usize), CoreFault> {
+    let mut core = opened(alloc, true)?;
+    let store = core.plain()?;
+    Ok((store.blocks.len(), store.roots.len(), store.epochs.len()))
+}
+
 #[test]
 fn a_peer_that_starts_copies_the_list_and_joins(rt: HostRuntime) -> Result<(), Fail> {
     assert_eq!(rt; joined(rt.alloc())?, Some((PeerStatus::Good, 1, Some(1))));
@@ -151,5 +158,11 @@ fn a_message_that_was_lost_is_sent_again(rt: HostRuntime) -> Result<(), Fail> {
         sent_again(rt.alloc())?,
         Some((PeerStatus::Good, 0, Some(2)))
     );
+    Ok(())
+}
+
+#[test]
+fn what_all_shards_have_is_one_plain_store(rt: HostRuntime) -> Result<(), Fail> {
+    assert_eq!(rt; plain(rt.alloc())?, (0, 0, 1));
     Ok(())
 }

@@ -4,6 +4,7 @@ mod JudgingLemmas
 mod LeadLemmas
 mod OpenLemmas
 mod PlacedLemmas
+mod PlainLemmas
 pub mod RangeLemmas
 pub mod RecordLemmas
 mod SeatLemmas

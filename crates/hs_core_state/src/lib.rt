@@ -19,6 +19,7 @@ mod notes;
 mod open_work;
 mod opening;
 mod pending;
+mod plain;
 mod queue;
 mod records;
 mod reporting;

@@ -3,6 +3,7 @@ use hs_awaiting::AwaitingFault;
 use hs_members::MemberFault;
 use hs_ops::OpFault;
 use hs_replica::GroupFault;
+use hs_shard::ShardFault;
 use std::alloc::{AllocError, AllocFailed};
 
 /// There is no memory, or a number has no next one.
@@ -41,6 +42,12 @@ impl From<AwaitingFault> for NoMemory {
 
 impl From<OpFault> for NoMemory {
     fn from(_fault: OpFault) -> NoMemory {
+        NoMemory
+    }
+}
+
+impl From<ShardFault> for NoMemory {
+    fn from(_fault: ShardFault) -> NoMemory {
         NoMemory
     }
 }

@@ -10,6 +10,7 @@ pub mod Looking
 pub mod Opening
 pub mod Operating
 pub mod Pending
+pub mod Plain
 pub mod Records
 pub mod Reporting
 pub mod Seeing

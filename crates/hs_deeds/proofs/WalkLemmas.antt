@@ -19,6 +19,7 @@ use Rattle.hs_any_events.proofs.SteadyLemmas.{IsSteady, grounded_of, judging, ag
 use Rattle.hs_awaiting.specs.Words.{change_with}
 use Rattle.hs_awaiting.specs.declared.wait.Wait.TheVariants as wait
 use Rattle.hs_awaiting.specs.declared.waiting.Waiting.{Waiting}
+use Rattle.hs_core_words.specs.Plain.{add_shards}
 use Rattle.hs_core_words.specs.Asking.{send_round}
 use Rattle.hs_core_words.specs.Changing.{change_pool, note, refuse, add_operation, change_group, post, set_viewed}
 use Rattle.hs_core_words.specs.Delivering.{is_new_round}
@@ -38,7 +39,6 @@ use Rattle.hs_deeds.proofs.GivenDeedLemmas.{ByPointers}
 use Rattle.hs_deeds.proofs.GoOnLemmas.{tells_on}
 use Rattle.hs_deeds.proofs.MarkedLemmas.{points_again, points_beside, points_effect, points_goes, points_line, points_opens, points_own, points_round, points_told}
 use Rattle.hs_deeds.proofs.OnLemmas.{map_join}
-use Rattle.hs_deeds.specs.Bare.{add_shards}
 use Rattle.hs_deeds.specs.History.{HasTold, deeds_of}
 use Rattle.hs_deeds.specs.On.{AreUnanswered, DeedsOn, Whatever}
 use Rattle.hs_deeds.specs.Points.{MarksPoint}

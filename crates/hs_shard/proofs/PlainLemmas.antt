@@ -26,6 +26,10 @@ use Rattle.hs_shard.specs.Adding.{AscendBlocks, AscendGiven, RiseInOrder, listed
 use Rattle.hs_shard.specs.Facts.{BlockList}
 use Rattle.hs_shard.specs.Plain.{add_blocks}
 
+pub sorted_none : IsStrictlySortedBy address_cmp []
+unfolding IsStrictlySortedBy
+sorted_none = tt
+
 -- ---- taken from the end
 
 module _ {V : Type 0} where

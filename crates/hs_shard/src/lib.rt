@@ -4,6 +4,7 @@
 mod blocks;
 mod catalogue;
 mod effect;
+mod empty;
 mod facts;
 mod fault;
 mod laws;
@@ -16,6 +17,7 @@ mod writes;
 
 pub use catalogue::Catalogue;
 pub use effect::{BlockFacts, Effect, Sent};
+pub use empty::empty_store;
 pub use facts::Facts;
 pub use fault::ShardFault;
 pub use laws::effects_tell_what_changed;

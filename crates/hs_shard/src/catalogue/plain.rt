@@ -17,7 +17,6 @@ impl Catalogue {
     /// fault is NoMemory; after it nothing is said of that store.
     pub fn plain(&mut self, into: &mut PlainStore) -> Result<(), ShardFault>
         requires plain { IsPlain into.old }
-        requires shape { into.old.shape ≡ self.old.shape }
         ensures ok { OnOk result (plain_of into.new ≡ add_shard self.old (plain_of into.old)) }
         ensures plain { OnOk result (IsPlain into.new) }
         ensures shape { OnOk result (into.new.shape ≡ into.old.shape) }

@@ -2,12 +2,12 @@ use Rattle.std.proofs.Common.{arith, map, subst, sym, List}
 use Rattle.std.proofs.lemmas.Grind.{common_steps}
 use Rattle.std.specs.List.Sorted.{IsStrictlySortedBy}
 use Rattle.std.specs.Map.{keys_of}
-use Rattle.hs_audit.proofs.AscendingLemmas.{sorted_none}
+use Rattle.hs_shard.proofs.PlainLemmas.{sorted_none}
 use Rattle.hs_limits.specs.declared.address.Held.{Held}
 use Rattle.hs_model.specs.declared.plain.PlainBlock.{PlainBlock}
 use Rattle.hs_model.specs.Plain.{entry_of}
 use Rattle.hs_model.specs.Store.{address_cmp}
-use Rattle.hs_audit.proofs.gathering.empty_store.Goals as goal
+use Rattle.hs_shard.proofs.empty.empty_store.Goals as goal
 
 pub returns-clause-plain : goal.returns-clause-plain
 returns-clause-plain c = record {
