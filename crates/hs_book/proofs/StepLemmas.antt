@@ -1,75 +1,16 @@
 -- What one event leaves of a core: its journal goes on, and it answers why it has ended.
-use Rattle.std.proofs.Common.{◌≡◌, ◌∙◌, ap, sym, ℕ, ◌+◌, ◌≤◌, ◌==◌, ◌&&◌, not, Bool, true, false, List, [], ◌∷◌, ◌++◌, Option, Some, None, refl, length, nat_lt, is_none, take, arith, length-append}
+use Rattle.std.proofs.Common.{◌≡◌, ◌∙◌, ap, subst, sym, ℕ, ◌+◌, ◌≤◌, Bool, true, false, List, [], ◌∷◌, ◌++◌, Option, Some, None, refl, length, nat_lt, take, arith, length-append}
 use Rattle.std.proofs.lemmas.List.{append-nil}
 use Rattle.std.specs.Prelude.{Result, Ok, Err, ⊤}
-use Rattle.hs_awaiting.specs.Words.{change_if}
 use Rattle.hs_core_words.specs.Calls.{outcome_of}
-use Rattle.hs_core_words.specs.Changing.{change_pool}
 use Rattle.hs_core_words.specs.declared.event.Event.{Event}
-use Rattle.hs_core_words.specs.declared.event.Event.TheVariants as event
 use Rattle.hs_core_words.specs.State.{Core}
 use Rattle.hs_core_words.specs.Step.{begin_event, do_event, end_event, line_of, step}
 use Rattle.hs_desk.specs.declared.fault.CoreFault.{CoreFault}
-use Rattle.hs_events.proofs.KeepLemmas.{Leaves, ReportLeaves, keeps_do, with_line}
+use Rattle.hs_events.proofs.FrameLemmas.{Frame, frame_done, step_by}
 use Rattle.hs_journal.specs.declared.entry.JournalEntry.{JournalEntry}
-use Rattle.hs_post.specs.Pool.{is_empty, restart_numbers}
 
 -- ---- the journal
-
--- until an event ends it is as it was
-pub record Same (old new : Core) : Type 0 where
-  pub journal : new.journal ≡ old.journal
-
-same : (c d : Core) → d.journal ≡ c.journal → Same c d
-same c d is = record { journal = is }
-
-leaves : Leaves Same
-leaves = record {
-  same = λ c. same c c refl;
-  both = λ a b c f g. record { journal = g.journal ∙ f.journal };
-  catalogue = λ shard x c. same c _ refl;
-  viewed = λ shard x c. same c _ refl;
-  status = λ peer x c. same c _ refl;
-  tasks = λ peer x c. same c _ refl;
-  rejoin = λ peer x c. same c _ refl;
-  pool = λ x c. same c _ refl;
-  operations = λ x c. same c _ refl;
-  sessions = λ x c. same c _ refl;
-  noted = λ of did told c. same c _ refl;
-  proposes = λ shard entry c. same c _ refl;
-  takes = λ shard peer entry c. same c _ refl;
-  hears = λ shard from view sealed c. same c _ refl;
-  renews = λ shard c. same c _ refl;
-  commits = λ shard c. same c _ refl;
-}
-
-report_leaves : ReportLeaves Same
-report_leaves = record {
-  seals = λ shard peer number c. same c _ refl;
-  empties = λ shard peer c. same c _ refl;
-  copies = λ shard peer number c. same c _ refl;
-}
-
-begins_so : (b : Bool) (at line : ℕ) (c : Core) → Same c (record (change_if b (change_pool restart_numbers) c) { moment = at; progress = record c.progress { event_line = line } })
-begins_so true at line c = same c _ refl
-begins_so false at line c = same c _ refl
-
-lined : (e : Event) (c : Core) → Same c (with_line e c)
-lined (event.Line line o) c = same c _ refl
-lined (event.Report peer d) c = same c _ refl
-lined (event.Turn line peer) c = same c _ refl
-lined (event.Deliver line number) c = same c _ refl
-lined (event.Lose line number) c = same c _ refl
-lined (event.Repeat line number) c = same c _ refl
-lined (event.Nudge line peer) c = same c _ refl
-lined (event.Fail line peer) c = same c _ refl
-lined (event.Start line peer) c = same c _ refl
-
-until_its_end : (e : Event) (at : ℕ) (c : Core) → Same c (do_event e (begin_event (line_of e) at c))
-until_its_end e at c =
-    let b : Core = begin_event (line_of e) at c in
-    let one : Same c b = begins_so ((c.progress.event_line == 0 && not (line_of e == 0)) && is_empty c.pool) at _ c in
-    leaves.both c b (do_event e b) one (leaves.both b (with_line e b) (do_event e b) (lined e b) (keeps_do leaves report_leaves e b))
 
 -- some entries, and others behind them
 pub record GoesOn (old new : List JournalEntry) : Type 0 where
@@ -84,16 +25,11 @@ ended_journal c = go (nat_lt c.limits.ops (length c.journal + length c.entries))
     go false e = record { more = c.entries; is = rw e refl }
 
 pub journal_goes_on : (e : Event) (at : ℕ) (c : Core) → GoesOn c.journal (step e at c).journal
-journal_goes_on e at c = go (is_none c.ended) refl
+journal_goes_on e at c = step_by (λ (d : Core). GoesOn c.journal d.journal) e at c (record { more = []; is = sym (append-nil c.journal) })
+    (subst (λ j. GoesOn j (end_event before).journal) (ap (λ (f : Frame). f.journal) (frame_done e at c)) (ended_journal before))
   where
     before : Core
     before = do_event e (begin_event (line_of e) at c)
-
-    go : (b : Bool) → is_none c.ended ≡ b → GoesOn c.journal (step e at c).journal
-    go true h =
-        let ends : GoesOn before.journal (end_event before).journal = ended_journal before in
-        record { more = ends.more; is = rw h (ends.is ∙ ap (λ j. j ++ ends.more) (until_its_end e at c).journal) }
-    go false h = record { more = []; is = rw h (sym (append-nil c.journal)) }
 
 -- so what it had is its front
 front_of : (old new : List JournalEntry) → GoesOn old new → (length old ≤ length new) × (take (length old) new ≡ old)

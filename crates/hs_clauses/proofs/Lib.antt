@@ -29,7 +29,6 @@ pub mod NumberLemmas
 pub mod NumberedLemmas
 pub mod OpenLemmas
 pub mod ReadLemmas
-pub mod ReadsFirstLemmas
 pub mod ReadsListLemmas
 pub mod ReadyLemmas
 pub mod RestLemmas

@@ -20,7 +20,7 @@ use Rattle.hs_limits.specs.declared.address.Address.{Address}
 use Rattle.hs_standing.proofs.LinesStepLemmas.{step_ended}
 use Rattle.hs_standing.specs.Script.{AreLines, IsNext, Script, all_events}
 use Rattle.hs_model.specs.declared.command.Command.{Command}
-use Rattle.hs_clauses.proofs.ReadsFirstLemmas.{Stays, opens_first}
+use Rattle.hs_clauses.proofs.FirstLemmas.{Stays, opens_first}
 use Rattle.hs_clauses.specs.Along.{AllCome}
 use Rattle.hs_clauses.proofs.WholeReadLemmas.{tell_soundly}
 use Rattle.hs_clauses.specs.Run.{script_of}

@@ -1,5 +1,5 @@
 -- The journal of a book is one of deeds: its lines are clients', and what else it does has no line and is not refused.
-use Rattle.std.proofs.Common.{◌≡◌, ◌∙◌, sym, ap, subst, ℕ, ◌+◌, ◌<◌, ◌≤◌, ◌==◌, ◌++◌, Bool, true, false, cond, List, [], ◌∷◌, map, Option, Some, None, IsSome, is_some, is_none, find, refl, arith, if◌then◌else◌, nat_lt, length}
+use Rattle.std.proofs.Common.{◌≡◌, ◌∙◌, sym, ap, subst, ℕ, ◌+◌, ◌<◌, ◌≤◌, ◌==◌, ◌++◌, Bool, true, false, cond, List, [], ◌∷◌, map, Option, Some, None, IsSome, is_some, is_none, find, refl, arith, if◌then◌else◌}
 use Rattle.std.proofs.lemmas.Bool.{eq-eqb, ne_eqb}
 use Rattle.std.specs.BTreeMap.{is_at}
 use Rattle.std.specs.Map.{lookup}
@@ -7,8 +7,6 @@ use Rattle.std.specs.Option.{option_map, option_map_or}
 use Rattle.std.specs.Ordering.{nat_cmp}
 use Rattle.hs_anatomy.proofs.AsideLemmas.{kept_if}
 use Rattle.hs_anatomy.proofs.LookLemmas.{same_number}
-use Rattle.hs_anatomy.proofs.StepLemmas.{step_is}
-use Rattle.hs_anatomy.specs.Acts.{begun}
 use Rattle.hs_anatomy.specs.Refusing.{message_refusal, refusal_in}
 use Rattle.hs_any_events.proofs.AlongLemmas.{LawsBelow}
 use Rattle.hs_any_events.specs.Events.{ComesNext, any_lines}
@@ -23,13 +21,12 @@ use Rattle.hs_core_words.specs.declared.event.Event.{Event}
 use Rattle.hs_core_words.specs.declared.event.Event.TheVariants as event
 use Rattle.hs_core_words.specs.Looking.{oldest_message, leads_of}
 use Rattle.hs_core_words.specs.State.{Core}
-use Rattle.hs_core_words.specs.Step.{begin_event, do_event, keep_entries, line_of, refuse_entries, run_event, step, is_first_line}
+use Rattle.hs_core_words.specs.Step.{begin_event, do_event, line_of, run_event, step, is_first_line}
 use Rattle.hs_deeds.proofs.GivenDeedLemmas.{ByPointers}
 use Rattle.hs_deeds.proofs.HistoryLemmas.{AllKeepTurn, KeepsTurn, history_told, told_deeds}
 use Rattle.hs_deeds.proofs.OpensLemmas.{HasNoLine, opens_lines}
 use Rattle.hs_deeds.specs.History.{AreClients}
 use Rattle.hs_desk.specs.declared.fault.CoreFault.{CoreFault}
-use Rattle.hs_events.proofs.KeepLemmas.{Leaves, ReportLeaves, keeps_do, with_line}
 use Rattle.hs_events.specs.Course.{steps}
 use Rattle.hs_events.specs.Due.{Events}
 use Rattle.hs_events.specs.Found.{Found, first_core, opens_with}
@@ -45,6 +42,7 @@ use Rattle.hs_model.specs.Hollow.{hollow}
 use Rattle.hs_moments.proofs.CoreLemmas.{line_at}
 use Rattle.hs_post.specs.declared.message.Message.{Message}
 use Rattle.hs_post.specs.Pool.{message_at, restart_numbers, is_for}
+use Rattle.hs_standing.proofs.LinesStepLemmas.{step_line}
 use Rattle.hs_standing.specs.Copies.{AllComeOn}
 use Rattle.hs_standing.specs.Held.{GivesAddresses}
 use Rattle.hs_standing.specs.Opens.{MayOpen}
@@ -88,54 +86,6 @@ module _ (commands : ℕ → Option Command) (core : Core) (moment : ℕ) (turn 
           ended commands core.progress.event_line (do_event e (begin_event (line_of e) moment core))
           (stays_event (stirs commands (core.progress.event_line + 1) core.progress.event_line) e (begin_event (line_of e) moment core) may.other (same_refusal e (line_of e) moment core ∙ may.free) (begun_turn goes (line_of e) may.of_none))
       go (Some fault) over = turn
-
--- ---- the line of the last event
-
-abbrev LineSame : Core → Core → Type 0
-LineSame a b = b.progress.event_line ≡ a.progress.event_line
-
-lines_same : Leaves LineSame
-lines_same = record {
-  same = λ c. refl;
-  both = λ a b c f g. g ∙ f;
-  catalogue = λ shard x c. refl;
-  viewed = λ shard x c. refl;
-  status = λ peer x c. refl;
-  tasks = λ peer x c. refl;
-  rejoin = λ peer x c. refl;
-  pool = λ x c. refl;
-  operations = λ x c. refl;
-  sessions = λ x c. refl;
-  noted = λ of did told c. refl;
-  proposes = λ shard entry c. refl;
-  takes = λ shard peer entry c. refl;
-  hears = λ shard from view sealed c. refl;
-  renews = λ shard c. refl;
-  commits = λ shard c. refl;
-}
-
-report_lines : ReportLeaves LineSame
-report_lines = record { seals = λ shard peer number c. refl; empties = λ shard peer c. refl; copies = λ shard peer number c. refl }
-
-line_kept : (e : Event) (c : Core) → (with_line e c).progress.event_line ≡ c.progress.event_line
-line_kept (event.Line line o) c = refl
-line_kept (event.Report peer d) c = refl
-line_kept (event.Turn line peer) c = refl
-line_kept (event.Deliver line number) c = refl
-line_kept (event.Lose line number) c = refl
-line_kept (event.Repeat line number) c = refl
-line_kept (event.Nudge line peer) c = refl
-line_kept (event.Fail line peer) c = refl
-line_kept (event.Start line peer) c = refl
-
-event_line_after : (e : Event) (at : ℕ) (c : Core) → c.ended ≡ None → (step e at c).progress.event_line ≡ (if line_of e == 0 then c.progress.event_line else line_of e)
-event_line_after e at c going =
-    ap (λ (x : Core). x.progress.event_line) (step_is e at c going) ∙ by (nat_lt (do_event e (begun e at c)).limits.ops (length (do_event e (begun e at c)).journal + length (do_event e (begun e at c)).entries))
-    ∙ keeps_do lines_same report_lines e (begun e at c) ∙ line_kept e (begun e at c)
-  where
-    by : (full : Bool) → (cond full (refuse_entries (do_event e (begun e at c))) (keep_entries (do_event e (begun e at c)))).progress.event_line ≡ (do_event e (begun e at c)).progress.event_line
-    by true = refl
-    by false = refl
 
 -- ---- messages
 
@@ -269,7 +219,7 @@ module _ (commands : ℕ → Option Command) (none : client_op (commands 0) ≡ 
   book_turns (e ∷ es) c may same asks = (
     λ going. keeps e.0 e.1 es c may.0.may (let now : e.1 ≡ c.moment = may.0.moment in omega (arith, now)) same asks,
     book_turns es (step e.0 e.1 c) may.1
-        (event_line_after e.0 e.1 c may.0.going ∙ lines_meet e.0 c may.0.may same ∙ sym (line_at c e.0 e.1 may.0.going))
+        (step_line e.0 e.1 c may.0.going ∙ lines_meet e.0 c may.0.may same ∙ sym (line_at c e.0 e.1 may.0.going))
         (λ n up. asks_on e.0 e.1 es c may.0.may asks n (subst (λ (l : ℕ). l < n) (line_at c e.0 e.1 may.0.going) up)),
   )
 

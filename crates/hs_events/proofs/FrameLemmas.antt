@@ -6,8 +6,8 @@ use Rattle.hs_anatomy.proofs.StillLemmas.{kept_still, strokes_keep}
 use Rattle.hs_anatomy.proofs.StrokeLemmas.{strokes_of}
 use Rattle.hs_anatomy.specs.Acts.{begun}
 use Rattle.hs_anatomy.specs.Kept.{Kept, kept_of}
-use Rattle.hs_anatomy.specs.Sizes.{Sizes, sizes_of}
-use Rattle.hs_anatomy.specs.Strokes.{Adds, Answers, IsStill, Notes, Renews, Still, Stroke, Strokes, TakesOut, Waits}
+use Rattle.hs_anatomy.specs.Sizes.{Sizes}
+use Rattle.hs_anatomy.specs.Strokes.{Adds, Answers, IsStill, Notes, Renews, Stroke, Strokes, TakesOut, Waits}
 use Rattle.hs_awaiting.specs.Words.{change_if}
 use Rattle.hs_core_words.specs.Changing.{change_pool}
 use Rattle.hs_core_words.specs.declared.event.Event.{Event}
@@ -40,7 +40,7 @@ frame_of c = record { shape = shape_of c; limits = c.limits; journal = c.journal
 -- ---- acts leave it
 
 frame_stroke : {s : Core} {e : Option Event} {a : Core} {b : Core} → Stroke s e a b → frame_of b ≡ frame_of a
-frame_stroke {a = a} {b = b} (IsStill x) = ap (λ k. framed k (shape_of b)) (kept_still x) ∙ ap (λ n. framed (kept_of a) n.shape) (sizes_still x)
+frame_stroke {a = a} {b = b} (IsStill x) = ap (λ (k : Kept). framed k (shape_of b)) (kept_still x) ∙ ap (λ (n : Sizes). framed (kept_of a) n.shape) (sizes_still x)
 frame_stroke (Notes by) = refl
 frame_stroke (Adds line o start is) = refl
 frame_stroke (Waits line w was at one) = refl
@@ -49,7 +49,7 @@ frame_stroke (TakesOut shard number entry next) = refl
 frame_stroke (Renews shard) = refl
 
 pub frame_strokes : {s : Core} {e : Option Event} (b : Core) → Strokes s e b → frame_of b ≡ frame_of s
-frame_strokes {s = s} b xs = strokes_keep (λ c. frame_of c ≡ frame_of s) (λ x y one same. frame_stroke one ∙ same) b xs refl
+frame_strokes {s = s} b xs = strokes_keep (λ (c : Core). frame_of c ≡ frame_of s) (λ x y one same. frame_stroke one ∙ same) b xs refl
 
 pub frame_does : (e : Event) (c : Core) → frame_of (do_event e c) ≡ frame_of c
 frame_does e c = frame_strokes (do_event e c) (strokes_of (does_acts c e))

@@ -18,7 +18,7 @@ use Rattle.hs_core_words.specs.Operating.{add_read, begin_line, busy_line, take_
 use Rattle.hs_core_words.specs.Seeing.{view_for}
 use Rattle.hs_core_words.specs.State.{Core}
 use Rattle.hs_core_words.specs.Step.{begin_event, do_event, end_event, line_of, run_event, step}
-use Rattle.hs_events.proofs.FrameLemmas.{begun_is, ended_same, frame_done, frame_opens}
+use Rattle.hs_events.proofs.FrameLemmas.{Frame, begun_is, ended_same, frame_done, frame_opens}
 use Rattle.hs_model.specs.declared.op.Op.{Op}
 use Rattle.hs_ops.specs.declared.step.OpStep.{OpStep}
 use Rattle.hs_ops.specs.declared.step.OpStep.TheVariants as step
@@ -45,7 +45,7 @@ line_last line o c =
 
 -- so does each stroke, but for a line that begins
 strokes_last : {s : Core} {e : Option Event} → ((line : ℕ) (o : Op) → e ≡ Some (event.Line line o) → ⊥) → (b : Core) → Strokes s e b → b.progress.last_line ≡ s.progress.last_line
-strokes_last {s = s} {e = e} calm b xs = strokes_keep (λ c. c.progress.last_line ≡ s.progress.last_line) (λ x y one same. by one ∙ same) b xs refl
+strokes_last {s = s} {e = e} calm b xs = strokes_keep (λ (c : Core). c.progress.last_line ≡ s.progress.last_line) (λ x y one same. by one ∙ same) b xs refl
   where
     by : {x : Core} {y : Core} → Stroke s e x y → y.progress.last_line ≡ x.progress.last_line
     by (IsStill still) = ap (λ (k : Kept). k.last_line) (kept_still still)
@@ -73,10 +73,10 @@ run_goes e at c =
     let b : Core = begin_event (line_of e) at c in
     let d : Core = do_event e b in
     record {
-      shape = ended_same (λ x. x.members.shape) d refl refl ∙ ap (λ f. f.shape) (frame_done e at c);
-      limits = ended_same (λ x. x.limits) d refl refl ∙ ap (λ f. f.limits) (frame_done e at c);
-      moment = ended_same (λ x. x.moment) d refl refl ∙ ap (λ f. f.moment) (frame_done e at c);
-      last_line = ended_same (λ x. x.progress.last_line) d refl refl ∙ does_last e b ∙ ap (λ x. last_line_after e x) (begun_is e at c);
+      shape = ended_same (λ (x : Core). x.members.shape) d refl refl ∙ ap (λ (f : Frame). f.shape) (frame_done e at c);
+      limits = ended_same (λ (x : Core). x.limits) d refl refl ∙ ap (λ (f : Frame). f.limits) (frame_done e at c);
+      moment = ended_same (λ (x : Core). x.moment) d refl refl ∙ ap (λ (f : Frame). f.moment) (frame_done e at c);
+      last_line = ended_same (λ (x : Core). x.progress.last_line) d refl refl ∙ does_last e b ∙ ap (λ (x : Core). last_line_after e x) (begun_is e at c);
     }
 
 pub step_goes : (e : Event) (at : ℕ) (c : Core) → c.ended ≡ None → Goes e at c (step e at c)
@@ -94,11 +94,11 @@ pub opening_stays : (c : Core) → Stays c (end_event (note_down (begin_views c)
 opening_stays c =
     let d : Core = note_down (begin_views c) in
     record {
-      shape = ended_same (λ x. x.members.shape) d refl refl ∙ ap (λ f. f.shape) (frame_opens c);
-      limits = ended_same (λ x. x.limits) d refl refl ∙ ap (λ f. f.limits) (frame_opens c);
-      moment = ended_same (λ x. x.moment) d refl refl ∙ ap (λ f. f.moment) (frame_opens c);
-      last_line = ended_same (λ x. x.progress.last_line) d refl refl ∙ strokes_last (λ line o is. cc is) d (strokes_of (opening_acts c));
+      shape = ended_same (λ (x : Core). x.members.shape) d refl refl ∙ ap (λ (f : Frame). f.shape) (frame_opens c);
+      limits = ended_same (λ (x : Core). x.limits) d refl refl ∙ ap (λ (f : Frame). f.limits) (frame_opens c);
+      moment = ended_same (λ (x : Core). x.moment) d refl refl ∙ ap (λ (f : Frame). f.moment) (frame_opens c);
+      last_line = ended_same (λ (x : Core). x.progress.last_line) d refl refl ∙ strokes_last (λ line o is. cc is) d (strokes_of (opening_acts c));
     }
 
 pub opening_line : (c : Core) → (end_event (note_down (begin_views c))).progress.event_line ≡ c.progress.event_line
-opening_line c = ended_same (λ x. x.progress.event_line) (note_down (begin_views c)) refl refl ∙ ap (λ f. f.event_line) (frame_opens c)
+opening_line c = ended_same (λ (x : Core). x.progress.event_line) (note_down (begin_views c)) refl refl ∙ ap (λ (f : Frame). f.event_line) (frame_opens c)

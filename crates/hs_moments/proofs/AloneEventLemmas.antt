@@ -1,5 +1,5 @@
 -- What an event makes of a core of one copy a shard: it goes on, or its shard is lost with the peer that goes down.
-use Rattle.std.proofs.Common.{◌≡◌, ◌≢◌, ◌⊎◌, ◌∙◌, ap, sym, subst, inl, inr, ℕ, zero, suc, ◌+◌, ◌*◌, ◌/◌, ◌<◌, ◌≤◌, ◌==◌, ◌&&◌, not, Bool, true, false, List, [], ◌∷◌, Option, Some, None, refl, arith, length, nat_lt, nat_le, is_none, is_some}
+use Rattle.std.proofs.Common.{◌≡◌, ◌≢◌, ◌⊎◌, ◌∙◌, ap, sym, subst, inl, inr, ℕ, zero, suc, ◌+◌, ◌*◌, ◌/◌, ◌<◌, ◌≤◌, ◌==◌, ◌&&◌, not, Bool, true, false, List, [], ◌∷◌, Option, Some, None, refl, arith, length, nat_lt, nat_le, is_some}
 use Rattle.std.proofs.lemmas.Bool.{cases_eq, cases_lt, le-leb}
 use Rattle.std.proofs.lemmas.List.{get_or-set_other, get_or-set_same, get_or_past}
 use Rattle.std.proofs.lemmas.List.Elements.{All-cons, All-nil}
@@ -23,7 +23,7 @@ use Rattle.hs_core_words.specs.Joining.{begin_joining, joining_peers, start}
 use Rattle.hs_core_words.specs.Looking.{group_of, home, lead_of, lost_shard, shape_of, status_of}
 use Rattle.hs_core_words.specs.Operating.{propose_entry}
 use Rattle.hs_core_words.specs.State.{Core}
-use Rattle.hs_core_words.specs.Step.{begin_event, do_event, end_event, keep_entries, line_of, refuse_entries, run_event, step}
+use Rattle.hs_core_words.specs.Step.{do_event, end_event, keep_entries, line_of, refuse_entries}
 use Rattle.hs_core_words.specs.Views.{begin_view, change_view}
 use Rattle.hs_desk.specs.declared.done.Done.{Done}
 use Rattle.hs_desk.specs.declared.fault.CoreFault.TheVariants as fault
@@ -41,6 +41,8 @@ use Rattle.hs_post.specs.Pool.{is_empty, is_full, message_at, restart_numbers, s
 use Rattle.hs_replica.specs.Group.{is_peer, resend}
 use Rattle.hs_events.specs.Asked.{report_in}
 use Rattle.hs_events.specs.Alone.{AreAlone, face, is_round}
+pub use Rattle.hs_anatomy.proofs.StepLemmas.{step_is}
+pub use Rattle.hs_anatomy.specs.Acts.{begun}
 use Rattle.hs_moments.proofs.AloneLemmas.{resend_alone}
 use Rattle.hs_moments.proofs.AloneStepLemmas.{proposes, sends_rounds, steps_go_on}
 use Rattle.hs_moments.proofs.MoveLemmas.{Moves, moves_both, moves_pool, moves_same}
@@ -235,20 +237,6 @@ quiet (event.Start line p) c h q = unless_by line (no_peer p c ∷ not_down p c 
 -- ---- how an event begins and ends
 
 -- as it begins, numbers of messages may start again
-abbrev pub begun : Event → ℕ → Core → Core
-begun e at c = record c {
-  pool = change_if ((c.progress.event_line == 0 && not (line_of e == 0)) && is_empty c.pool) restart_numbers c.pool;
-  moment = at;
-  progress = record c.progress { event_line = if line_of e == 0 then c.progress.event_line else line_of e };
-}
-
-begun_is : (e : Event) (at : ℕ) (c : Core) → begin_event (line_of e) at c ≡ begun e at c
-begun_is e at c = go ((c.progress.event_line == 0 && not (line_of e == 0)) && is_empty c.pool)
-  where
-    go : (b : Bool) → record (change_if b (change_pool restart_numbers) c) { moment = at; progress = record c.progress { event_line = if line_of e == 0 then c.progress.event_line else line_of e } } ≡ record c { pool = change_if b restart_numbers c.pool; moment = at; progress = record c.progress { event_line = if line_of e == 0 then c.progress.event_line else line_of e } }
-    go true = refl
-    go false = refl
-
 pub alone_begun : (e : Event) (at : ℕ) (c : Core) → AreAlone (face c) → AreAlone (face (begun e at c))
 alone_begun e at c h = (moves_pool (face c) (begun e at c).pool h (go ((c.progress.event_line == 0 && not (line_of e == 0)) && is_empty c.pool))).alone
   where
@@ -273,6 +261,3 @@ ends c = go (is_over c) refl
     go : (b : Bool) → is_over c ≡ b → EndsEvent c (end_event c)
     go true e = subst (λ b. EndsEvent c (if b then refuse_entries c else keep_entries c)) (sym e) (record { members = refl; groups = refl; same = refl; ended = inl refl })
     go false e = subst (λ b. EndsEvent c (if b then refuse_entries c else keep_entries c)) (sym e) (record { members = refl; groups = refl; same = refl; ended = inr refl })
-
-pub step_is : (e : Event) (at : ℕ) (c : Core) → c.ended ≡ None → step e at c ≡ end_event (do_event e (begun e at c))
-step_is e at c going = ap (λ o. change_if (is_none o) (run_event e at) c) going ∙ ap (λ x. end_event (do_event e x)) (begun_is e at c)

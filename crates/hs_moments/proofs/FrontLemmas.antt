@@ -53,7 +53,7 @@ strokes_rise {a = a} (Renews shard) =
 -- ---- of an event
 
 pub fronts_rise : (e : Event) (at : ℕ) (c : Core) → FrontsRise c (step e at c)
-fronts_rise e at c = step_by (λ x. FrontsRise c x) e at c (same_fronts c c (λ shard. refl)) (rises_both c b (end_event d) begins (rises_both b d (end_event d) does ends))
+fronts_rise e at c = step_by (λ (x : Core). FrontsRise c x) e at c (same_fronts c c (λ shard. refl)) (rises_both c b (end_event d) begins (rises_both b d (end_event d) does ends))
   where
     b : Core
     b = begin_event (line_of e) at c
@@ -62,10 +62,10 @@ fronts_rise e at c = step_by (λ x. FrontsRise c x) e at c (same_fronts c c (λ 
     d = do_event e b
 
     begins : FrontsRise c b
-    begins = same_fronts c b (λ shard. ap (λ x. front_of shard x) (begun_is e at c))
+    begins = same_fronts c b (λ shard. ap (λ (x : Core). front_of shard x) (begun_is e at c))
 
     does : FrontsRise b d
     does = strokes_keep (λ x. FrontsRise b x) (λ x y one up. rises_both b x y up (strokes_rise one)) d (strokes_of (does_acts b e)) (same_fronts b b (λ shard. refl))
 
     ends : FrontsRise d (end_event d)
-    ends = same_fronts d (end_event d) (λ shard. ended_same (λ x. front_of shard x) d refl refl)
+    ends = same_fronts d (end_event d) (λ shard. ended_same (λ (x : Core). front_of shard x) d refl refl)

@@ -3,16 +3,17 @@ use Rattle.std.proofs.Common.{◌≡◌, ◌∙◌, ap, sym, subst, ℕ, ◌+◌
 use Rattle.std.proofs.lemmas.List.{append-nil}
 use Rattle.std.proofs.lemmas.List.Elements.{All-append, All-cons, All-nil}
 use Rattle.std.specs.Prelude.{All}
-use Rattle.hs_anatomy.proofs.EventLemmas.{does_acts}
+use Rattle.hs_anatomy.proofs.EventLemmas.{does_acts, opening_acts}
 use Rattle.hs_anatomy.proofs.StillLemmas.{kept_still, strokes_keep}
 use Rattle.hs_anatomy.proofs.StrokeLemmas.{strokes_of}
 use Rattle.hs_anatomy.specs.Kept.{Kept}
-use Rattle.hs_anatomy.specs.Strokes.{Adds, Answers, IsStill, Notes as Tells, Renews, Stroke, Strokes, TakesOut, Waits}
+use Rattle.hs_anatomy.specs.Strokes.{Adds, Answers, IsStill, Notes, Renews, Stroke, Strokes, TakesOut, Waits}
 use Rattle.hs_core_words.specs.Changing.{end_operation, note}
 use Rattle.hs_core_words.specs.declared.event.Event.{Event}
+use Rattle.hs_core_words.specs.Opening.{begin_views, note_down}
 use Rattle.hs_core_words.specs.State.{Core}
-use Rattle.hs_core_words.specs.Step.{begin_event, do_event, end_event, line_of, step}
-use Rattle.hs_events.proofs.FrameLemmas.{begun_is, frame_done}
+use Rattle.hs_core_words.specs.Step.{begin_event, end_event, line_of, step}
+use Rattle.hs_events.proofs.FrameLemmas.{Frame, begun_is, frame_done, frame_opens}
 use Rattle.hs_journal.specs.declared.entry.JournalEntry.{JournalEntry}
 use Rattle.hs_journal.specs.declared.entry.Who.{Who}
 use Rattle.hs_journal.specs.declared.entry.Who.TheVariants as who
@@ -25,14 +26,9 @@ use Rattle.hs_ops.specs.Answers.{deed_of}
 abbrev pub AreAt : ℕ → List JournalEntry → Type 0
 AreAt at entries = All (λ (entry : JournalEntry). entry.moment ≡ at) entries
 
-pub record Notes (old new : Core) : Type 0 where
-  pub journal : new.journal ≡ old.journal
-  pub moment : new.moment ≡ old.moment
-  pub entries : AreAt old.moment old.entries → AreAt new.moment new.entries
-
 -- what an event tells is told at its moment
 told_at : {s : Core} {e : Option Event} (b : Core) → Strokes s e b → AreAt s.moment s.entries → AreAt b.moment b.entries
-told_at b xs h = strokes_keep (λ c. AreAt c.moment c.entries) (λ x y one at. by one at) b xs h
+told_at b xs h = strokes_keep (λ (c : Core). AreAt c.moment c.entries) (λ x y one at. by one at) b xs h
   where
     more : (of : Who) (did : Deed) (told : Reply) (c : Core) → AreAt c.moment c.entries → AreAt c.moment (note of did told c).entries
     more of did told c at = All-append (λ (entry : JournalEntry). entry.moment ≡ c.moment) c.entries (record { who = of; moment = c.moment; deed = did; reply = told } ∷ []) at
@@ -40,7 +36,7 @@ told_at b xs h = strokes_keep (λ c. AreAt c.moment c.entries) (λ x y one at. b
 
     by : {s : Core} {e : Option Event} {x : Core} {y : Core} → Stroke s e x y → AreAt x.moment x.entries → AreAt y.moment y.entries
     by (IsStill still) at = subst (λ (k : Kept). AreAt k.moment k.entries) (sym (kept_still still)) at
-    by {x = x} (Tells {of = of} {did = did} {told = told} why) at = more of did told x at
+    by {x = x} (Notes {of = of} {did = did} {told = told} why) at = more of did told x at
     by (Adds line o start is) at = at
     by (Waits line w was there one) at = at
     by {x = x} (Answers line w was told there one why) at = more (who.Line line) (deed_of x.sessions w.operation.op told) told (end_operation line x) at
@@ -54,25 +50,31 @@ at_moment : (e : Event) (at : ℕ) (c : Core) → c.entries ≡ [] → AreAt at 
 at_moment e at c none =
     let b : Core = begin_event (line_of e) at c in
     let begins : AreAt b.moment b.entries = subst (λ (x : Core). AreAt x.moment x.entries) (sym (begun_is e at c)) (subst (λ es. AreAt at es) (sym none) (All-nil (λ (entry : JournalEntry). entry.moment ≡ at))) in
-    subst (λ m. AreAt m (before_end e at c).entries) (ap (λ f. f.moment) (frame_done e at c)) (told_at (before_end e at c) (strokes_of (does_acts b e)) begins)
+    subst (λ m. AreAt m (before_end e at c).entries) (ap (λ (f : Frame). f.moment) (frame_done e at c)) (told_at (before_end e at c) (strokes_of (does_acts b e)) begins)
+
+-- as a core opens
+pub opening_told : (c : Core) → c.entries ≡ [] → AreAt c.moment (note_down (begin_views c)).entries
+opening_told c none =
+    let d : Core = note_down (begin_views c) in
+    subst (λ m. AreAt m d.entries) (ap (λ (f : Frame). f.moment) (frame_opens c)) (told_at d (strokes_of (opening_acts c)) (subst (λ es. AreAt c.moment es) (sym none) (All-nil (λ (entry : JournalEntry). entry.moment ≡ c.moment))))
 
 -- ---- at its end
 
-ended_journal : (c : Core) → (end_event c).journal ≡ c.journal ++ kept_entries c
+pub ended_journal : (c : Core) → (end_event c).journal ≡ c.journal ++ kept_entries c
 ended_journal c = go (nat_lt c.limits.ops (length c.journal + length c.entries)) refl
   where
     go : (b : Bool) → nat_lt c.limits.ops (length c.journal + length c.entries) ≡ b → (end_event c).journal ≡ c.journal ++ kept_entries c
     go true e = rw e (sym (append-nil c.journal))
     go false e = rw e refl
 
-ended_entries : (c : Core) → (end_event c).entries ≡ []
+pub ended_entries : (c : Core) → (end_event c).entries ≡ []
 ended_entries c = go (nat_lt c.limits.ops (length c.journal + length c.entries)) refl
   where
     go : (b : Bool) → nat_lt c.limits.ops (length c.journal + length c.entries) ≡ b → (end_event c).entries ≡ []
     go true e = rw e refl
     go false e = rw e refl
 
-kept_at : (at : ℕ) (c : Core) → AreAt at c.entries → AreAt at (kept_entries c)
+pub kept_at : (at : ℕ) (c : Core) → AreAt at c.entries → AreAt at (kept_entries c)
 kept_at at c h = go (nat_lt c.limits.ops (length c.journal + length c.entries)) refl
   where
     go : (b : Bool) → nat_lt c.limits.ops (length c.journal + length c.entries) ≡ b → AreAt at (kept_entries c)
@@ -83,7 +85,7 @@ pub journal_after : (e : Event) (at : ℕ) (c : Core) → (step e at c).journal 
 journal_after e at c = go (is_none c.ended) refl
   where
     go : (b : Bool) → is_none c.ended ≡ b → (step e at c).journal ≡ c.journal ++ added e at c
-    go true h = rw h (ended_journal (before_end e at c) ∙ ap (λ f. f.journal ++ kept_entries (before_end e at c)) (frame_done e at c))
+    go true h = rw h (ended_journal (before_end e at c) ∙ ap (λ (f : Frame). f.journal ++ kept_entries (before_end e at c)) (frame_done e at c))
     go false h = rw h (sym (append-nil c.journal))
 
 pub added_at : (e : Event) (at : ℕ) (c : Core) → c.entries ≡ [] → AreAt at (added e at c)

@@ -7,16 +7,15 @@ use Rattle.hs_anatomy.proofs.StrokeLemmas.{strokes_of}
 use Rattle.hs_anatomy.specs.Acts.{Aside, Copies, Empties, Hears, Loses, Repeats, Reports, Resends, Seals, Starts, Takes, Views}
 use Rattle.hs_anatomy.specs.Strokes.{Adds, Answers, BeginsAgain, Besides, Follows, IsStill, Leaves, Notes, Proposes, Reads, Renews, SendsAgain, Still, Stroke, TakesOut, TurnsGood, Waits}
 use Rattle.hs_awaiting.specs.Words.{change_with, each}
-use Rattle.hs_core_words.specs.Asking.{send_round}
 use Rattle.hs_core_words.specs.Changing.{add_entry_tasks, change_group, change_pool, change_rejoin, post}
 use Rattle.hs_core_words.specs.declared.event.Event.{Event}
 use Rattle.hs_core_words.specs.declared.event.Event.TheVariants as event
 use Rattle.hs_core_words.specs.Effects.{round_messages}
 use Rattle.hs_core_words.specs.Joining.{begin_joining, follow_lead, joining_peers}
 use Rattle.hs_core_words.specs.Looking.{catalogue_of, group_of, home, lead_of, sealed_of, shape_of}
-use Rattle.hs_core_words.specs.Operating.{add_read, propose_entry}
+use Rattle.hs_core_words.specs.Operating.{add_read}
 use Rattle.hs_core_words.specs.State.{Core}
-use Rattle.hs_core_words.specs.Step.{begin_event, do_event, end_event, line_of, step}
+use Rattle.hs_core_words.specs.Step.{begin_event, do_event, line_of, step}
 use Rattle.hs_desk.specs.declared.done.Done.{Done}
 use Rattle.hs_entry.specs.declared.entry.Entry.{Entry}
 use Rattle.hs_events.proofs.FrameLemmas.{Frame, begun_is, ended_same, frame_does, step_by}
@@ -144,8 +143,8 @@ module _ {s : Core} {e : Option Event} (quiet : (peer : ℕ) (d : Done) → e �
 -- ---- of an event
 
 pub seals_stay : (core : Core) (e : Event) (at peer : ℕ) → report_in e ≡ None → sealed_of peer (step e at core) ≡ sealed_of peer core
-seals_stay core e at peer none = step_by (λ c. sealed_of peer c ≡ sealed_of peer core) e at core refl
-    (ended_same (λ c. sealed_of peer c) d refl refl ∙ does ∙ ap (λ c. sealed_of peer c) (begun_is e at core))
+seals_stay core e at peer none = step_by (λ (c : Core). sealed_of peer c ≡ sealed_of peer core) e at core refl
+    (ended_same (λ (c : Core). sealed_of peer c) d refl refl ∙ does ∙ ap (λ (c : Core). sealed_of peer c) (begun_is e at core))
   where
     b : Core
     b = begin_event (line_of e) at core

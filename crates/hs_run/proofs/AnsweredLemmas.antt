@@ -1,29 +1,21 @@
 -- What events add to a journal: within its limit, and no later than they are.
-use Rattle.std.proofs.Common.{◌≡◌, ◌∙◌, ap, sym, subst, ℕ, ◌+◌, ◌≤◌, Bool, true, false, List, [], ◌∷◌, ◌++◌, refl, arith, is_none, length, length-append, nat_lt, not}
+use Rattle.std.proofs.Common.{◌≡◌, ◌∙◌, ap, sym, subst, ℕ, ◌+◌, ◌≤◌, Bool, true, false, List, [], ◌∷◌, ◌++◌, refl, arith, is_none, length, length-append, nat_lt}
 use Rattle.std.proofs.lemmas.List.{append-nil, append_assoc}
-use Rattle.std.proofs.lemmas.List.Elements.{All-append, All-cons, All-nil, All-same, All-weaker}
+use Rattle.std.proofs.lemmas.List.Elements.{All-append, All-nil, All-same, All-weaker}
 use Rattle.std.specs.Prelude.{All}
 use Rattle.hs_cluster.proofs.OpenedLemmas.{opens_so}
-use Rattle.hs_awaiting.specs.Words.{change_if, each}
-use Rattle.hs_core_words.specs.Changing.{note}
 use Rattle.hs_core_words.specs.declared.event.Event.{Event}
-use Rattle.hs_core_words.specs.Looking.{shape_of, shards_of, status_of}
-use Rattle.hs_core_words.specs.Opening.{Taken, begin_views, new_core, note_down, note_if_down, open_core}
+use Rattle.hs_core_words.specs.Opening.{Taken, begin_views, new_core, note_down, open_core}
 use Rattle.hs_core_words.specs.State.{Core}
 use Rattle.hs_core_words.specs.Step.{end_event, step}
-use Rattle.hs_core_words.specs.Views.{change_view}
-use Rattle.hs_events.proofs.KeepLemmas.{Leaves, keeps_change_view}
+use Rattle.hs_events.proofs.FrameLemmas.{Frame, frame_opens}
 use Rattle.hs_events.specs.Course.{steps}
 use Rattle.hs_events.specs.Due.{Events, MomentsRise}
 use Rattle.hs_journal.specs.declared.entry.JournalEntry.{JournalEntry}
-use Rattle.hs_journal.specs.declared.entry.Who.TheVariants as who
 use Rattle.hs_limits.specs.declared.limits.Limits.{Limits}
 use Rattle.hs_limits.specs.declared.shape.Shape.{Shape}
-use Rattle.hs_members.specs.Members.{all_peers, is_good_status}
-use Rattle.hs_model.specs.declared.deed.Deed.TheVariants as deed
-use Rattle.hs_model.specs.declared.reply.Reply.TheVariants as reply
 use Rattle.hs_moments.proofs.CoreLemmas.{limits_at}
-use Rattle.hs_moments.proofs.JournalLemmas.{AreAt, Notes, added_at, entries_after, journal_after}
+use Rattle.hs_moments.proofs.JournalLemmas.{AreAt, added_at, ended_entries, ended_journal, entries_after, journal_after, kept_at, opening_told}
 use Rattle.hs_moments.specs.Answers.{added, before_end, kept_entries}
 use Rattle.hs_run.specs.Going.{HasAnswered}
 use Rattle.hs_run.proofs.RiseLemmas.{rise_le}
@@ -125,86 +117,15 @@ has_added c (e ∷ es) from to between rise =
 
 -- ---- a core that opens
 
-alike : (c d : Core) → d.journal ≡ c.journal → d.moment ≡ c.moment → d.entries ≡ c.entries → Notes c d
-alike c d journal moment entries = record {
-  journal = journal;
-  moment = moment;
-  entries = λ h. subst (λ (m : ℕ). AreAt m d.entries) (sym moment) (subst (λ (es : List JournalEntry). AreAt c.moment es) (sym entries) h);
-}
-
-both_notes : (a b c : Core) → Notes a b → Notes b c → Notes a c
-both_notes a b c f g = record { journal = g.journal ∙ f.journal; moment = g.moment ∙ f.moment; entries = λ h. g.entries (f.entries h) }
-
-leaves : Leaves Notes
-leaves = record {
-  same = λ c. alike c c refl refl refl;
-  both = both_notes;
-  catalogue = λ shard x c. alike c _ refl refl refl;
-  viewed = λ shard x c. alike c _ refl refl refl;
-  status = λ peer x c. alike c _ refl refl refl;
-  tasks = λ peer x c. alike c _ refl refl refl;
-  rejoin = λ peer x c. alike c _ refl refl refl;
-  pool = λ x c. alike c _ refl refl refl;
-  operations = λ x c. alike c _ refl refl refl;
-  sessions = λ x c. alike c _ refl refl refl;
-  noted = λ of did told c. record {
-    journal = refl;
-    moment = refl;
-    entries = λ h. All-append (λ (entry : JournalEntry). entry.moment ≡ c.moment) c.entries (record { who = of; moment = c.moment; deed = did; reply = told } ∷ []) h
-        (All-cons (λ (entry : JournalEntry). entry.moment ≡ c.moment) (record { who = of; moment = c.moment; deed = did; reply = told }) [] refl (All-nil (λ (entry : JournalEntry). entry.moment ≡ c.moment)));
-  };
-  proposes = λ shard entry c. alike c _ refl refl refl;
-  takes = λ shard peer entry c. alike c _ refl refl refl;
-  hears = λ shard from view sealed c. alike c _ refl refl refl;
-  renews = λ shard c. alike c _ refl refl refl;
-  commits = λ shard c. alike c _ refl refl refl;
-}
-
-each_notes : (f : ℕ → Core → Core) → ((k : ℕ) (c : Core) → Notes c (f k c)) → (ks : List ℕ) (c : Core) → Notes c (each ks f c)
-each_notes f h [] c = alike c c refl refl refl
-each_notes f h (k ∷ ks) c = both_notes c (f k c) (each ks f (f k c)) (h k c) (each_notes f h ks (f k c))
-
-noted : (peer : ℕ) (c : Core) → Notes c (note_if_down peer c)
-noted peer c = go (not (is_good_status (status_of peer c)))
-  where
-    go : (b : Bool) → Notes c (change_if b (note who.Store deed.Nothing (reply.Down peer 0)) c)
-    go true = leaves.noted who.Store deed.Nothing (reply.Down peer 0) c
-    go false = alike c c refl refl refl
-
-end_entries : (c : Core) → (end_event c).entries ≡ []
-end_entries c = go (nat_lt c.limits.ops (length c.journal + length c.entries)) refl
-  where
-    go : (b : Bool) → nat_lt c.limits.ops (length c.journal + length c.entries) ≡ b → (end_event c).entries ≡ []
-    go true e = rw e refl
-    go false e = rw e refl
-
-end_journal : (c : Core) → (end_event c).journal ≡ c.journal ++ kept_entries c
-end_journal c = go (nat_lt c.limits.ops (length c.journal + length c.entries)) refl
-  where
-    go : (b : Bool) → nat_lt c.limits.ops (length c.journal + length c.entries) ≡ b → (end_event c).journal ≡ c.journal ++ kept_entries c
-    go true e = rw e (sym (append-nil c.journal))
-    go false e = rw e refl
-
-kept_at : (at : ℕ) (c : Core) → AreAt at c.entries → AreAt at (kept_entries c)
-kept_at at c h = go (nat_lt c.limits.ops (length c.journal + length c.entries)) refl
-  where
-    go : (b : Bool) → nat_lt c.limits.ops (length c.journal + length c.entries) ≡ b → AreAt at (kept_entries c)
-    go true e = rw e (All-nil (λ (entry : JournalEntry). entry.moment ≡ at))
-    go false e = rw e h
-
 pub answered_opens : (shape : Shape) (limits : Limits) (taken : Taken) (moment : ℕ) → HasAnswered limits.ops (open_core shape limits taken moment) moment
 answered_opens shape limits taken moment =
     let a : Core = new_core shape limits taken moment in
-    let b : Core = begin_views a in
-    let c : Core = note_down b in
-    let n : Notes a c = both_notes a b c (each_notes change_view (λ k x. keeps_change_view leaves k x) (shards_of a) a) (each_notes note_if_down noted (all_peers (shape_of b)) b) in
-    let at : AreAt moment c.entries = subst (λ (m : ℕ). AreAt m c.entries) n.moment (n.entries (All-nil (λ (entry : JournalEntry). entry.moment ≡ moment))) in
+    let c : Core = note_down (begin_views a) in
     let limit : (end_event c).limits ≡ limits = (opens_so shape limits taken moment).limits in
-    let was : c.limits ≡ limits = sym (end_limits c) ∙ limit in
-    let journal : (end_event c).journal ≡ [] ++ kept_entries c = end_journal c ∙ ap (λ (j : List JournalEntry). j ++ kept_entries c) n.journal in
+    let journal : (end_event c).journal ≡ [] ++ kept_entries c = ended_journal c ∙ ap (λ (f : Frame). f.journal ++ kept_entries c) (frame_opens a) in
     record {
-      between = end_entries c;
+      between = ended_entries c;
       limits = ap (λ (l : Limits). l.ops) limit;
-      fits = fits_end c limits.ops [] (ap (λ (l : Limits). l.ops) was) (omega arith) journal;
-      dated = All-same (λ (entry : JournalEntry). entry.moment ≤ moment) (end_event c).journal (kept_entries c) journal (at_by moment moment (kept_entries c) (omega arith) (kept_at moment c at));
+      fits = fits_end c limits.ops [] (ap (λ (f : Frame). f.limits.ops) (frame_opens a)) (omega arith) journal;
+      dated = All-same (λ (entry : JournalEntry). entry.moment ≤ moment) (end_event c).journal (kept_entries c) journal (at_by moment moment (kept_entries c) (omega arith) (kept_at moment c (opening_told a refl)));
     }

@@ -14,7 +14,7 @@ use Rattle.hs_core_words.specs.Step.{do_event, end_event, keep_entries, line_of,
 use Rattle.hs_desk.specs.declared.done.Done.{Done}
 use Rattle.hs_desk.specs.declared.done.Done.TheVariants as done
 use Rattle.hs_desk.specs.declared.fault.CoreFault.{CoreFault}
-use Rattle.hs_events.proofs.KeepLemmas.{Leaves, ReportLeaves, keeps_do, with_line}
+use Rattle.hs_events.proofs.FrameLemmas.{Frame, frame_does}
 use Rattle.hs_events.specs.Course.{steps}
 use Rattle.hs_events.specs.Due.{Events}
 use Rattle.hs_events.specs.Sane.{IsSane}
@@ -31,45 +31,8 @@ use Rattle.hs_standing.specs.Walks.{MayEvent, MayReport, Walks, WalksViews}
 
 -- ---- what found the journal full
 
-abbrev pub RefusesSame : Core → Core → Type 0
-RefusesSame a b = b.refused ≡ a.refused
-
-refuses : Leaves RefusesSame
-refuses = record {
-  same = λ c. refl;
-  both = λ a b c f g. g ∙ f;
-  catalogue = λ shard x c. refl;
-  viewed = λ shard x c. refl;
-  status = λ peer x c. refl;
-  tasks = λ peer x c. refl;
-  rejoin = λ peer x c. refl;
-  pool = λ x c. refl;
-  operations = λ x c. refl;
-  sessions = λ x c. refl;
-  noted = λ of did told c. refl;
-  proposes = λ shard entry c. refl;
-  takes = λ shard peer entry c. refl;
-  hears = λ shard from view sealed c. refl;
-  renews = λ shard c. refl;
-  commits = λ shard c. refl;
-}
-
-report_refuses : ReportLeaves RefusesSame
-report_refuses = record { seals = λ shard peer number c. refl; empties = λ shard peer c. refl; copies = λ shard peer number c. refl }
-
-line_refuses : (e : Event) (c : Core) → (with_line e c).refused ≡ c.refused
-line_refuses (event.Line line o) c = refl
-line_refuses (event.Report peer d) c = refl
-line_refuses (event.Turn line peer) c = refl
-line_refuses (event.Deliver line number) c = refl
-line_refuses (event.Lose line number) c = refl
-line_refuses (event.Repeat line number) c = refl
-line_refuses (event.Nudge line peer) c = refl
-line_refuses (event.Fail line peer) c = refl
-line_refuses (event.Start line peer) c = refl
-
 pub do_refuses : (e : Event) (c : Core) → (do_event e c).refused ≡ c.refused
-do_refuses e c = keeps_do refuses report_refuses e c ∙ line_refuses e c
+do_refuses e c = ap (λ (f : Frame). f.refused) (frame_does e c)
 
 -- ---- what is known of copies, as it has begun
 
