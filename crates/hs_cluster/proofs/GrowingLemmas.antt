@@ -26,16 +26,22 @@ some_is x y e = cc
 -- ---- one log
 
 -- it is out of use
-pub slot_gone : (slot kept : Option Keeping) (old new : Standing) → kept ≡ None → SlotGoesOn slot kept old new
-slot_gone slot kept old new gone = record {
+pub slot_gone : (slot kept : Option Keeping) (old new : Standing) → kept ≡ None → (slot ≡ None → new ≡ old) → SlotGoesOn slot kept old new
+slot_gone slot kept old new gone rests = record {
   out = λ none. gone;
+  rests = rests;
   on = λ keeping after list waiting had has at. absurd (none_is_not after (sym gone ∙ at));
 }
+
+-- that of a disk whose log was in use
+pub slot_fails : (slot : Option Keeping) (log : Keeping) (kept : Option Keeping) (old new : Standing) → slot ≡ Some log → kept ≡ None → SlotGoesOn slot kept old new
+slot_fails slot log kept old new is gone = slot_gone slot kept old new gone (λ none. absurd (none_is_not log (sym none ∙ is)))
 
 -- nothing was done
 pub slot_same : (slot kept : Option Keeping) (old new : Standing) → kept ≡ slot → new ≡ old → SlotGoesOn slot kept old new
 slot_same slot kept old new same stands = record {
   out = λ none. same ∙ none;
+  rests = λ none. stands;
   on = λ keeping after list waiting had has at.
       let is : keeping ≡ after = some_is keeping after (sym had ∙ sym same ∙ at) in
       record {
@@ -52,6 +58,7 @@ pub slot_on : (slot : Option Keeping) (log kept : Keeping) (old new : Standing) 
     → ((list : Numbered) (waiting : Option Entry) → IsKept log (old.seen log.log.side) list waiting → KeepsMore list kept new) → SlotGoesOn slot (Some kept) old new
 slot_on slot log kept old new is grows = record {
   out = λ none. absurd (none_is_not log (sym none ∙ is));
+  rests = λ none. absurd (none_is_not log (sym none ∙ is));
   on = λ keeping after list waiting had has at.
       subst (λ k. KeepsMore list k new) (some_is kept after at)
       (grows list waiting (subst (λ (k : Keeping). IsKept k (old.seen k.log.side) list waiting) (some_is keeping log (sym had ∙ is)) has));
@@ -100,6 +107,7 @@ slot_copied slot log kept old new entry is copied = slot_on slot log kept old ne
 pub slot_then : (a b c : Option Keeping) (x y z : Standing) → SlotGoesOn a b x y → SlotGoesOn b c y z → SlotGoesOn a c x z
 slot_then a b c x y z one two = record {
   out = λ none. two.out (one.out none);
+  rests = λ none. two.rests (one.out none) ∙ one.rests none;
   on = λ keeping after list waiting had has at. between b refl keeping after list waiting had has at;
 }
   where
@@ -127,7 +135,7 @@ pub goes_fewer : (logs fewer : List (Option Keeping)) (disks : List DiskSeen) (p
 goes_fewer logs fewer disks peer less = by (log_at fewer peer) refl
   where
     by : (o : Option Keeping) → log_at fewer peer ≡ o → GoesOn logs disks fewer disks peer
-    by None is = slot_gone (log_at logs peer) (log_at fewer peer) (disk_at (stands_of disks) peer) (disk_at (stands_of disks) peer) is
+    by None is = slot_gone (log_at logs peer) (log_at fewer peer) (disk_at (stands_of disks) peer) (disk_at (stands_of disks) peer) is (λ none. refl)
     by (Some keeping) is = slot_same (log_at logs peer) (log_at fewer peer) (disk_at (stands_of disks) peer) (disk_at (stands_of disks) peer) (is ∙ sym (less peer keeping is)) refl
 
 pub goes_then : (a b c : List (Option Keeping)) (x y z : List DiskSeen) (peer : ℕ) → GoesOn a x b y peer → GoesOn b y c z peer → GoesOn a x c z peer

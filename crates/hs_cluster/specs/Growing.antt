@@ -15,9 +15,10 @@ pub record KeepsMore (list : Numbered) (keeping : Keeping) (disk : Standing) : T
   pub waiting : Option Entry
   pub kept : IsKept keeping (disk.seen keeping.log.side) (list ++ more) waiting
 
--- so does the log of a disk that was in use with a list, as long as it is in use; and one that is out of use stays so
+-- so does the log of a disk that was in use with a list, as long as it is in use; and one that is out of use stays so, and its disk as it is, whatever a stop may leave
 pub record SlotGoesOn (slot kept : Option Keeping) (old new : Standing) : Type 0 where
   pub out : slot ≡ None → kept ≡ None
+  pub rests : slot ≡ None → new ≡ old
   pub on : (keeping after : Keeping) (list : Numbered) (waiting : Option Entry) → slot ≡ Some keeping → IsKept keeping (old.seen keeping.log.side) list waiting
       → kept ≡ Some after → KeepsMore list after new
 

@@ -71,8 +71,8 @@ impl Cluster {
         ensures falls { (peer : ℕ) → command ≡ Fail peer → (p : ℕ) → p ≢ peer
             → log_at self.new.logs p ≡ log_at self.old.logs p }
 
-        // The list of a peer that is not joining only goes on, as long as its log is in use; and nobody
-        // begins to join but by a line that starts it.
+        // The list of a peer that is not joining only goes on, as long as its log is in use, and its disk
+        // stays as it is where that is out of use; and nobody begins to join but by a line that starts it.
         ensures goes_on { D.tells → (peer : ℕ) → is_joining (status_of peer self.old.core) ≡ false
             → GoesOn self.old.logs
             (map (λ disk. seen_as (D.size disk) (D.stands disk) (D.faults disk)) disks.old)

@@ -184,7 +184,7 @@ returns-in-Err-clause-goes_on g c = λ told p.
     let item : c.index_mut.result.now ≡ log_at c.args.logs.now.items c.from-source.result = grind (arith, common_steps) in
     let in_logs : c.from-source.result < length c.args.logs.now.items = grind (arith, common_steps) in
     let in_disks : c.from-source.result < length c.args.disks.now = grind (arith, common_steps) in
-    goes_at c.args.logs.now.items c.args.disks.now f c.from-source.result c.index_mut.result.now c.read_copy.new.slot c.index-disks-source.result c.read_copy.new.disk p item in_logs in_disks (λ e. slot_gone _ _ _ _ c.in-Err.ensures.out)
+    goes_at c.args.logs.now.items c.args.disks.now f c.from-source.result c.index_mut.result.now c.read_copy.new.slot c.index-disks-source.result c.read_copy.new.disk p item in_logs in_disks (λ e. slot_gone _ _ _ _ c.in-Err.ensures.out (λ none. c.read_copy.ensures.same told))
 
 -- ---- whose header a stop leaves
 

@@ -1,6 +1,6 @@
 use Rattle.std.proofs.Common.{◌∙◌, arith, refl, sym}
 use Rattle.hs_cluster.proofs.EmptyLemmas.{log_taken, write_cut, write_failed, write_ok}
-use Rattle.hs_cluster.proofs.GrowingLemmas.{slot_copied, slot_gone}
+use Rattle.hs_cluster.proofs.GrowingLemmas.{slot_copied, slot_fails, slot_gone}
 use Rattle.hs_cluster.proofs.HeadLemmas.{headed_gone, headed_log, headed_ok}
 use Rattle.hs_taking.proofs.HeadLemmas.{heads_still}
 use Rattle.hs_cluster.proofs.job.write_copy.Goals as goal
@@ -27,13 +27,13 @@ returns-in-Ok-clause-goes_on g c = λ told.
     (λ list waiting has. c.in-Ok.ensures.reads told list waiting has)
 
 pub returns-in_default-clause-goes_on : goal.returns-in_default-clause-goes_on
-returns-in_default-clause-goes_on g c = λ told. slot_gone _ _ _ _ c.take.ensures.after
+returns-in_default-clause-goes_on g c = λ told. slot_gone _ _ _ _ c.take.ensures.after (λ none. refl)
 
 pub returns-in-Err-NoMemory-clause-goes_on : goal.returns-in-Err-NoMemory-clause-goes_on
-returns-in-Err-NoMemory-clause-goes_on g c = λ told. slot_gone _ _ _ _ c.take.ensures.after
+returns-in-Err-NoMemory-clause-goes_on g c = λ told. slot_fails _ c.in-Some.log _ _ _ (sym c.take.ensures.value ∙ c.in-Some.is) c.take.ensures.after
 
 pub returns-clause-goes_on : goal.returns-clause-goes_on
-returns-clause-goes_on g c = λ told. slot_gone _ _ _ _ c.take.ensures.after
+returns-clause-goes_on g c = λ told. slot_fails _ c.in-Some.log _ _ _ (sym c.take.ensures.value ∙ c.in-Some.is) c.take.ensures.after
 
 pub returns-in_default-clause-headed : goal.returns-in_default-clause-headed
 returns-in_default-clause-headed g c = λ told header headed.
