@@ -75,17 +75,17 @@ commit_seals g peer = go (nat_lt g.front (commit_front g)) refl (slice_get g.wai
 -- ---- of each stroke
 
 -- of each peer as many are sealed
-record SealsStay (a b : Core) : Type 0 where
-  each : (at peer : ℕ) (none : Group) → sealed_in (slice_index_or b.groups at none) peer ≡ sealed_in (slice_index_or a.groups at none) peer
+abbrev SealsStay : Core → Core → Type 0
+SealsStay a b = (at peer : ℕ) (none : Group) → sealed_in (slice_index_or b.groups at none) peer ≡ sealed_in (slice_index_or a.groups at none) peer
 
 same_groups : (a b : Core) → b.groups ≡ a.groups → SealsStay a b
-same_groups a b e = record { each = λ at peer none. ap (λ gs. sealed_in (slice_index_or gs at none) peer) e }
+same_groups a b e = λ at peer none. ap (λ gs. sealed_in (slice_index_or gs at none) peer) e
 
 stay_both : (a b c : Core) → SealsStay a b → SealsStay b c → SealsStay a c
-stay_both a b c f g = record { each = λ at peer none. g.each at peer none ∙ f.each at peer none }
+stay_both a b c f g = λ at peer none. g at peer none ∙ f at peer none
 
 stay_by : (shard : ℕ) (f : Group → Group) (c : Core) → ((peer : ℕ) → sealed_in (f (group_of shard c)) peer ≡ sealed_in (group_of shard c) peer) → SealsStay c (change_group shard f c)
-stay_by shard f c h = record { each = λ at peer none. set_same (λ g. sealed_in g peer) c.groups shard at (f (group_of shard c)) (new_group (shape_of c) shard 0 0 []) none (h peer) }
+stay_by shard f c h = λ at peer none. set_same (λ (g : Group). sealed_in g peer) c.groups shard at (f (group_of shard c)) (new_group (shape_of c) shard 0 0 []) none (h peer)
 
 groups_with : {B : Type 0} (o : Option B) (f : B → Core → Core) (c : Core) → ((y : B) (x : Core) → (f y x).groups ≡ x.groups) → (change_with o f c).groups ≡ c.groups
 groups_with None f c h = refl
@@ -163,5 +163,5 @@ seals_stay core e at peer none = step_by (λ (c : Core). sealed_of peer c ≡ se
 
     does : sealed_of peer d ≡ sealed_of peer b
     does =
-        (strokes_keep (λ c. SealsStay b c) (λ x y one h. stay_both b x y h (seals_stroke quiet x y one)) d (strokes_of (does_acts b e)) (same_groups b b refl)).each (home peer d) peer (new_group (shape_of d) (home peer d) 0 0 [])
+        (strokes_keep (λ (c : Core). SealsStay b c) (λ x y one h. stay_both b x y h (seals_stroke quiet x y one)) d (strokes_of (does_acts b e)) (same_groups b b refl)) (home peer d) peer (new_group (shape_of d) (home peer d) 0 0 [])
         ∙ ap (λ (f : Frame). sealed_in (slice_index_or b.groups (home_of f.shape peer) (new_group f.shape (home_of f.shape peer) 0 0 [])) peer) (frame_does e b)
