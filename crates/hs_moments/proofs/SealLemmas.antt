@@ -153,13 +153,13 @@ seals_stay core e at peer none = step_by (λ (c : Core). sealed_of peer c ≡ se
     d = do_event e b
 
     quiet : (p : ℕ) (x : Done) → Some e ≡ Some (event.Report p x) → ⊥
-    quiet p x is = some_is_not (sym (reported is) ∙ none)
+    quiet p x is = some_is_not (p, x) (sym (reported is) ∙ none)
       where
         reported : Some e ≡ Some (event.Report p x) → report_in e ≡ Some (p, x)
         reported is = let same : e ≡ event.Report p x = cc is in ap report_in same
 
-        some_is_not : Some (p, x) ≡ None → ⊥
-        some_is_not e = grind arith
+        some_is_not : (y : ℕ × Done) → Some y ≡ None → ⊥
+        some_is_not y is = cc is
 
     does : sealed_of peer d ≡ sealed_of peer b
     does =
