@@ -10,7 +10,7 @@ use Rattle.hs_cluster.proofs.EventLemmas.{still_going}
 use Rattle.hs_cluster.proofs.HeadLemmas.{header_shown, heads_next}
 use Rattle.hs_cluster.proofs.OpenedLemmas.{shape_opens}
 use Rattle.hs_cluster.proofs.FoundLemmas.{begins_so, finds, found, opens_so, was_read}
-use Rattle.hs_cluster.proofs.OpeningMoves.{all_good, alone_sane, alone_whole, jobs_first, same_members, sealed_first}
+use Rattle.hs_cluster.proofs.OpeningMoves.{alone_sane, alone_whole, jobs_first, same_members, sealed_first}
 use Rattle.hs_cluster.proofs.StretchLemmas.{rises_to}
 use Rattle.hs_cluster.specs.Begins.{Begins, HasOpened, opened_with}
 use Rattle.hs_cluster.specs.Calls.{Does, ran_out}
@@ -45,7 +45,7 @@ use Rattle.hs_members.specs.Members.{IsPeer, Members, home_of}
 use Rattle.hs_moments.proofs.AloneEventLemmas.{home_here}
 use Rattle.hs_moments.proofs.HappenedLemmas.{happened_rise}
 use Rattle.hs_moments.proofs.MomentLemmas.{le-is}
-use Rattle.hs_moments.proofs.OpeningLemmas.{opening_is_sane}
+use Rattle.hs_moments.proofs.OpeningLemmas.{all_good, opening_is_sane}
 use Rattle.hs_moments.proofs.WorkLemmas.{floor_alone, none_appended, reach_sane}
 use Rattle.hs_moments.specs.Machine.{runs, state_at, until}
 use Rattle.hs_moments.specs.Moments.{GivesFine, IsStanding, Keeps}

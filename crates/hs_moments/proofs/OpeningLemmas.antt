@@ -112,10 +112,10 @@ opened_members c =
 -- ---- the core as it begins
 
 module _ (set : Setting) (found : Found) (one : set.shape.copies ≡ 1) (many : length found.good ≡ set.shape.shards * set.shape.copies) (going : (first_core set found).ended ≡ None) where
-  abbrev taken : Taken
+  abbrev pub taken : Taken
   taken = opens_with set found
 
-  abbrev start : Core
+  abbrev pub start : Core
   start = new_core set.shape set.limits (opens_with set found) found.opened
 
   abbrev before : Core
@@ -144,7 +144,7 @@ module _ (set : Setting) (found : Found) (one : set.shape.copies ≡ 1) (many : 
       ended None some bad = cc
       ended (Some s) some bad = cc
 
-  all_good : (p : ℕ) → p < set.shape.shards → starts_good found p ≡ true
+  pub all_good : (p : ℕ) → p < set.shape.shards → starts_good found p ≡ true
   all_good p low = go (starts_good found p) refl
     where
       go : (b : Bool) → starts_good found p ≡ b → b ≡ true
@@ -152,10 +152,10 @@ module _ (set : Setting) (found : Found) (one : set.shape.copies ≡ 1) (many : 
       go false e = absurd (lost p low e)
 
   -- how long the list of a shard is
-  abbrev opened_length : ℕ → ℕ
+  abbrev pub opened_length : ℕ → ℕ
   opened_length g = slice_index taken.lengths g
 
-  group_is : (g : ℕ) → g < set.shape.shards → group_of g start ≡ alone set.shape g (slice_index taken.views g) (opened_length g) [] (whole_copy (slice_index taken.views g) (opened_length g))
+  pub group_is : (g : ℕ) → g < set.shape.shards → group_of g start ≡ alone set.shape g (slice_index taken.views g) (opened_length g) [] (whole_copy (slice_index taken.views g) (opened_length g))
   group_is g low =
       let at : g < length found.good = omega (arith, many, shards, low) in
       let first : g * set.shape.copies + 0 ≡ g = ap (λ n. g * n + 0) one ∙ omega arith in
@@ -165,7 +165,7 @@ module _ (set : Setting) (found : Found) (one : set.shape.copies ≡ 1) (many : 
       get_or-map-range_with_len (taken_group set.shape taken) 0 set.shape.shards g g (new_group set.shape g 0 0 []) low (omega arith)
       ∙ ap (new_group set.shape g (slice_index taken.views g) (opened_length g)) copies
 
-  tasks_are : (g : ℕ) → tasks_of g start ≡ []
+  pub tasks_are : (g : ℕ) → tasks_of g start ≡ []
   tasks_are g = elim (cases_lt g (set.shape.shards * set.shape.copies)) [
     | inl low ↦ get_or-replicate (set.shape.shards * set.shape.copies) g [] [] low
     | inr high ↦ get_or_past (replicate (set.shape.shards * set.shape.copies) []) g [] (let l = length-replicate (set.shape.shards * set.shape.copies) (the_none) in omega (arith, l, high))
@@ -174,7 +174,7 @@ module _ (set : Setting) (found : Found) (one : set.shape.copies ≡ 1) (many : 
       the_none : List Task
       the_none = []
 
-  alone_start : AreAlone (face start)
+  pub alone_start : AreAlone (face start)
   alone_start = record {
     copies = one;
     groups = length-map-range_with_len (taken_group set.shape taken) 0 set.shape.shards;
@@ -193,7 +193,7 @@ module _ (set : Setting) (found : Found) (one : set.shape.copies ≡ 1) (many : 
       let none : entries_above (own (group_of g start)).sealed (group_of g start) ≡ [] = above_front (group_of g start) (own (group_of g start)).sealed settled ∙ ap (λ (y : Group). enumerate_from (y.front + 1) y.waiting) is in
       record { settled = settled; jobs = inl (record { queue = []; all = none; jobs = tasks_are g }) }
 
-  moves_first : Moves (face start) (face (first_core set found))
+  pub moves_first : Moves (face start) (face (first_core set found))
   moves_first =
       let m : Moves (face start) (face (begin_views start)) = views_begin start alone_start in
       let n : Moves (face start) (face before) = moves_both (face start) (face (begin_views start)) (face before) m (downs_noted (begin_views start) m.alone) in
