@@ -49,5 +49,6 @@ pub mod StoredFrontLemmas
 pub mod TakenLemmas
 pub mod TellLemmas
 pub mod ToldDownLemmas
+pub mod ToldRunLemmas
 pub mod UnopenedLemmas
 pub mod WholeReadLemmas

@@ -1,10 +1,10 @@
 -- What a cluster shows of a run is what is asked of it here, where the disks tell their contents.
-use Rattle.std.proofs.Common.{◌≡◌, ◌∙◌, inl, inr, ap, sym, subst, ℕ, zero, suc, ◌*◌, ◌<◌, ◌≤◌, List, [], ◌∷◌, Some, None, refl, length, arith}
+use Rattle.std.proofs.Common.{◌≡◌, ◌∙◌, ap, sym, subst, ℕ, zero, suc, ◌*◌, ◌<◌, ◌≤◌, List, [], ◌∷◌, Some, None, refl, length, arith}
 use Rattle.std.proofs.lemmas.List.{length-map}
 use Rattle.std.specs.Prelude.{IsSome, true}
-use Rattle.hs_clauses.specs.Shown.{HaveOneList, IsBehindAtEntry, IsShown, IsToldAs, IsUnopened, KeepLists, KeepsList, OnDisks}
+use Rattle.hs_clauses.specs.Shown.{HaveOneList, IsShown, IsUnopened, KeepLists, KeepsList, OnDisks}
 use Rattle.hs_cluster.specs.Disks.{DiskSeen, seen_at, stands_of}
-use Rattle.hs_cluster.specs.Kept.{AreTold, Span}
+use Rattle.hs_cluster.specs.Kept.{Span}
 use Rattle.hs_cluster.specs.Opens.{LeaveOneList}
 use Rattle.hs_cluster.specs.RunsOn.{RunsOn}
 use Rattle.hs_cluster.specs.Unopened.{LeavesAsTaken}
@@ -14,7 +14,6 @@ use Rattle.hs_events.specs.Taken.{peer_count}
 use Rattle.hs_events.specs.Whole.{open_whole}
 use Rattle.hs_fold.specs.Images.{IsLeft}
 use Rattle.hs_fold.specs.Shards.Setting.{Numbered}
-use Rattle.hs_known_copies.proofs.KnownLemmas.{whole_opens}
 use Rattle.hs_moments.specs.Moments.{ListsAtMoments}
 use Rattle.hs_moments.specs.WholeMachine.{whole_machine}
 use Rattle.hs_peerlog.specs.Images.{GivesList, Is, LeavesOnly}
@@ -26,8 +25,6 @@ use Rattle.hs_promise.specs.Machine.{NeverOpened, Went}
 use Rattle.hs_promise.specs.Run.{Ran, Script}
 use Rattle.hs_promise.specs.Story.{Story, all_events}
 use Rattle.hs_side.specs.Current.{list_in}
-use Rattle.hs_standing.specs.Opening.{OpensSoundly}
-use Rattle.hs_steady.proofs.ShowLemmas.{run_shows}
 use Rattle.hs_taking.specs.Shares.{KeepsDisk, Span as Taking}
 
 stands_seen : (disks : List DiskSeen) (k : ℕ) → disk_at (stands_of disks) k ≡ (seen_at disks k).stands
@@ -35,7 +32,7 @@ stands_seen [] k = refl
 stands_seen (d ∷ disks) zero = refl
 stands_seen (d ∷ disks) (suc k) = stands_seen disks k
 
-seen_as : (disks : List DiskSeen) (objects : List Standing) (p : ℕ) → stands_of disks ≡ objects → (seen_at disks p).stands ≡ disk_at objects p
+pub seen_as : (disks : List DiskSeen) (objects : List Standing) (p : ℕ) → stands_of disks ≡ objects → (seen_at disks p).stands ≡ disk_at objects p
 seen_as disks objects p same = sym (stands_seen disks p) ∙ ap (λ (ds : List Standing). disk_at ds p) same
 
 -- calls that keep a disk's list, as a run sees it
@@ -50,19 +47,6 @@ keeps_list tells r p before now old new told start was is keeps called list only
 
 -- ---- a core was opened
 
--- with any number of copies what its reports tell
-pub told_of : (tells : Type 0) (S : Script) (r : Ran) (story : Story) (span : Span) → tells → span.before ≡ r.old.moment → stands_of span.disks ≡ r.old.disks → RunsOn tells S.set span story.found (all_events story)
-    → IsBehindAtEntry S r → Went S r story → ((peer : ℕ) → peer < peer_count S.set.shape → IsReadAs r story peer) → IsToldAs S r story
-told_of tells S r story span told before old runs behind went read = record { went = went; read = read; rooms = runs.rooms; told = by behind }
-  where
-    by : IsBehindAtEntry S r → OpensSoundly S.set story.found → (first_core S.set story.found).ended ≡ None → AreTold (open_whole S.set story.found) (all_events story)
-    by (inl one) soundly going = runs.told one told going
-    by (inr called) soundly going =
-        (run_shows tells S.set span story.found (all_events story) runs told
-        (λ p. let last = ap (λ (d : Standing). d.last) (seen_as span.disks r.old.disks p old) in let low = called p in omega (arith, last, low, before))
-        (whole_opens S.set story.found soundly) going).told
-
--- with one copy of each shard, all that is shown
 module _ (tells : Type 0) (S : Script) (r : Ran) (story : Story) (on : OnDisks S r) (span : Span) (told : tells) (before : span.before ≡ r.old.moment) (now : span.now ≡ r.new.moment)
     (old : stands_of span.disks ≡ r.old.disks) (new : stands_of span.left ≡ r.new.disks) (runs : RunsOn tells S.set span story.found (all_events story)) where
   sound : HaveOneList r → LeaveOneList span.before span.disks

@@ -1,7 +1,7 @@
 -- What is promised of a run from the store at entry, with any number of copies, where the disks tell and are sound.
 use Rattle.std.proofs.Common.{◌≡◌, ap, refl, ◌++◌, Option, Some, None}
 use Rattle.std.specs.Prelude.{IfSome}
-use Rattle.hs_clauses.proofs.ShownLemmas.{told_of}
+use Rattle.hs_clauses.proofs.ToldRunLemmas.{told_of}
 use Rattle.hs_clauses.specs.Shown.{HasItsDisks, IsBehindAtEntry, IsToldAs, IsToldRun, RunsSoundly, ToldAs}
 use Rattle.hs_desk.specs.declared.fault.CoreFault.{CoreFault}
 use Rattle.hs_events.specs.Found.{first_core}
