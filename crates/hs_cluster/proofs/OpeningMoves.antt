@@ -24,10 +24,10 @@ use Rattle.hs_moments.proofs.MoveLemmas.{Goes, Moves}
 use Rattle.hs_replica.specs.Group.{Group, entries_above, last_number}
 
 module _ (set : Setting) (found : Found) (one : set.shape.copies ≡ 1) (many : length found.good ≡ set.shape.shards * set.shape.copies) (going : (first_core set found).ended ≡ None) where
-  abbrev start : Core
+  abbrev pub start : Core
   start = new_core set.shape set.limits (opens_with set found) found.opened
 
-  moves_first : Moves (face start) (face (first_core set found))
+  pub moves_first : Moves (face start) (face (first_core set found))
   moves_first = opens_moving set found one many going
 
   alone_start : AreAlone (face start)

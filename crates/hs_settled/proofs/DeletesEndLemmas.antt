@@ -1,5 +1,5 @@
 -- How an event ends: its entries come behind the journal, all of them or none.
-use Rattle.std.proofs.Common.{◌≡◌, sym, ap, ◌⊎◌, inl, inr, ◌+◌, ◌++◌, Bool, true, false, cond, List, [], length, refl, append-nil, nat_lt}
+use Rattle.std.proofs.Common.{◌≡◌, ◌∙◌, sym, ap, ◌⊎◌, inl, inr, ◌+◌, ◌++◌, Bool, true, false, cond, List, [], length, refl, append-nil, nat_lt}
 use Rattle.hs_core_words.specs.declared.event.Event.{Event}
 use Rattle.hs_core_words.specs.State.{Core}
 use Rattle.hs_core_words.specs.Step.{do_event, end_event, keep_entries, refuse_entries}
