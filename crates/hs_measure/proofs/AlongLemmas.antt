@@ -45,13 +45,17 @@ use Rattle.hs_whole_copies.specs.Whole.{IsWholeInStep}
 
 -- ---- the laws below, in one place
 
--- what each event of a run keeps, what hs_clauses says of reports, and hs_settled of what is open
-pub record AlongLaws : Type 0 where
-  pub events : (start : Start) (core : Core) (events : Events) → RunsBefore start core events → AllMayKeep start (MayRun start) core events → TellsDeletion (judging_of start) start.entry core
-      → (n : ℕ) → KeepsPromise start (steps core (take n events))
+-- what hs_clauses says of reports
+pub record TellLaws : Type 0 where
   pub reports : (start : Start) (c : Whole) (event : Event) → ReadsWhatIsSealed start c → IsTold c (report_in event) → ReportsBlocks (judging_of start) start.entry event c.core
   pub reads : (start : Start) (c : Whole) (event : Event) (moment : ℕ) → ReadsInStep start c → IsComing (judging_of start) c.core event moment → HasRecordRoom c.core → IsTold c (report_in event)
       → (step event moment c.core).ended ≡ None → ReadsInStep start (step_whole event moment c)
+
+-- with what each event of a run keeps, and what hs_settled says of what is open
+pub record AlongLaws : Type 0 where
+  pub tell : TellLaws
+  pub events : (start : Start) (core : Core) (events : Events) → RunsBefore start core events → AllMayKeep start (MayRun start) core events → TellsDeletion (judging_of start) start.entry core
+      → (n : ℕ) → KeepsPromise start (steps core (take n events))
   pub moves : (name : List ℕ → Address) (core : Core) (events : Events) → IsMoving name core → MayBeginAll name events core → (steps core events).ended ≡ None → IsMoving name (steps core events)
 
 -- what is known of events: they come, and what is told of disks
@@ -86,9 +90,9 @@ before_events start c r few es = record {
   known = knows_along c.core es r.machines (record { shape = r.whole.shape; each = λ g low. (r.whole.each g low).in_step });
 }
 
-module _ (laws : AlongLaws) (start : Start) where
+module _ (laws : TellLaws) (start : Start) where
   -- each report tells its block, as long as the core goes on
-  pub tell_along : (c : Whole) (es : Events) → (c.core.ended ≡ None → ReadsInStep start c) → AllCome (judging_of start) c.core es → KeepsRecordRoom c.core es → AreTold c es → TellTheirBlocks (judging_of start) start.entry c.core es
+  tell_along : (c : Whole) (es : Events) → (c.core.ended ≡ None → ReadsInStep start c) → AllCome (judging_of start) c.core es → KeepsRecordRoom c.core es → AreTold c es → TellTheirBlocks (judging_of start) start.entry c.core es
   tell_along c [] r come room told = tt
   tell_along c (e ∷ es) r come room told = (
     λ going. laws.reports start c e.0 (reads_sealed start c (r going)) told.0,
@@ -102,22 +106,29 @@ module _ (laws : AlongLaws) (start : Start) where
       let on : (step e.0 e.1 c.core).ended ≡ None = going_before es (step e.0 e.1 c.core) going in
       read_along (step_whole e.0 e.1 c) es (laws.reads start c e.0 e.1 r (come.0 r.whole.going) (room.0 r.whole.going) told.0 on) come.1 room.1 told.1 going
 
+  module _ (c : Whole) (r : ReadsInStep start c) (few : HasRecordRoom c.core) (es : Events) (comes : Comes start c es) where
+    all : AllCome (judging_of start) c.core es
+    all = all_comes start es c.core comes.come comes.fresh comes.addressed
+
+    rooms : KeepsRecordRoom c.core es
+    rooms = keeps_room c.core es (λ going. few) comes.rooms
+
+    pub last_few : (steps c.core es).ended ≡ None → HasRecordRoom (steps c.core es)
+    last_few = last_room c.core es (λ going. few) comes.rooms
+
+    -- each event may come, and keeps the run standing
+    pub may_come : AllMayKeep start (MayRun start) c.core es
+    may_come = all_keep start c.core es comes.come comes.fresh comes.addressed (record { room = rooms; blocks = tell_along c es (λ going. r) all rooms comes.told }) last_few
+
+    pub reads_behind : (steps c.core es).ended ≡ None → ReadsInStep start (runs whole_machine c es)
+    reads_behind going = read_along c es r all rooms comes.told going
+
 module _ (laws : AlongLaws) (start : Start) (c : Whole) (its : IsAlong start c) (es : Events) (comes : Comes start c es) where
   pub run : RunsBefore start c.core es
   run = before_events start c its.reading its.few es
 
-  all : AllCome (judging_of start) c.core es
-  all = all_comes start es c.core comes.come comes.fresh comes.addressed
-
-  rooms : KeepsRecordRoom c.core es
-  rooms = keeps_room c.core es (λ going. its.few) comes.rooms
-
-  last : (steps c.core es).ended ≡ None → HasRecordRoom (steps c.core es)
-  last = last_room c.core es (λ going. its.few) comes.rooms
-
-  -- each event may come, and keeps the run standing
   pub may : AllMayKeep start (MayRun start) c.core es
-  may = all_keep start c.core es comes.come comes.fresh comes.addressed (record { room = rooms; blocks = tell_along laws start c es (λ going. its.reading) all rooms comes.told }) last
+  may = may_come laws.tell start c its.reading its.few es comes
 
   pub moments : (n : ℕ) → KeepsPromise start (steps c.core (take n es))
   moments n = laws.events start c.core es run may its.deletes n
@@ -129,8 +140,8 @@ module _ (laws : AlongLaws) (start : Start) (c : Whole) (its : IsAlong start c) 
   module _ (going : (steps c.core es).ended ≡ None) where
     pub goes_on : IsAlong start (runs whole_machine c es)
     goes_on = record {
-      reading = read_along laws start c es its.reading all rooms comes.told going;
-      few = subst (λ (x : Core). HasRecordRoom x) (sym (runs_core c es)) (last going);
+      reading = reads_behind laws.tell start c its.reading its.few es comes going;
+      few = subst (λ (x : Core). HasRecordRoom x) (sym (runs_core c es)) (last_few laws.tell start c its.reading its.few es comes going);
       moving = subst (λ (x : Core). IsMoving start.set.name x) (sym (runs_core c es)) (laws.moves start.set.name c.core es its.moving comes.fresh going);
       deletes = subst (λ (x : Core). TellsDeletion (judging_of start) start.entry x) (sym (runs_core c es)) kept.deletes;
       pool = ap (λ (x : Core). x.pool.limit) (runs_core c es) ∙ (steps_roomy es c.core).limit ∙ its.pool;

@@ -6,8 +6,7 @@ pub returns-clause-keeps : goal.returns-clause-keeps
 returns-clause-keeps g c = λ start line asked since before now old new disks left result told its after next asks later runs.
     let laws : AlongLaws = record {
       events = c.each_event_keeps_the_promise.ensures.events;
-      reports = c.each_report_tells_its_block.ensures.report;
-      reads = c.a_run_reads_on.ensures.event;
+      tell = record { reports = c.each_report_tells_its_block.ensures.report; reads = c.a_run_reads_on.ensures.event };
       moves = c.each_operation_goes_on.ensures.events;
     } in
     let lines : LineLaws = record {
@@ -22,8 +21,7 @@ pub returns-clause-rests : goal.returns-clause-rests
 returns-clause-rests g c = λ start line asked since before now old new disks left result told its after next asks later runs.
     let laws : AlongLaws = record {
       events = c.each_event_keeps_the_promise.ensures.events;
-      reports = c.each_report_tells_its_block.ensures.report;
-      reads = c.a_run_reads_on.ensures.event;
+      tell = record { reports = c.each_report_tells_its_block.ensures.report; reads = c.a_run_reads_on.ensures.event };
       moves = c.each_operation_goes_on.ensures.events;
     } in
     let lines : LineLaws = record {

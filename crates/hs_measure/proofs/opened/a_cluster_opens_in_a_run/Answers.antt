@@ -6,8 +6,7 @@ pub returns : goal.returns
 returns g c = λ set commands span cluster done told shape calm names nobody opens going sound.
     let along : AlongLaws = record {
       events = c.each_event_keeps_the_promise.ensures.events;
-      reports = c.each_report_tells_its_block.ensures.report;
-      reads = c.a_run_reads_on.ensures.event;
+      tell = record { reports = c.each_report_tells_its_block.ensures.report; reads = c.a_run_reads_on.ensures.event };
       moves = c.each_operation_goes_on.ensures.events;
     } in
     let opening : OpeningLaws = record {
