@@ -23,6 +23,7 @@ use Rattle.hs_settled.proofs.CausesRunLemmas.{all_ask_so, all_come_so, flat_is, 
 use Rattle.hs_settled.proofs.KeptLemmas.{all_own}
 use Rattle.hs_settled.specs.Noted.{AllAreOwn, IsOwnEvent}
 use Rattle.hs_standing.specs.Run.{MayRun}
+use Rattle.hs_standing.specs.Script.{all_events as flat_events}
 use Rattle.hs_standing.specs.Standing.{AllMayKeep}
 
 -- ---- own events are so where line 0 has a command too
@@ -54,7 +55,7 @@ module _ (law : RunHasRoom) (S : Script) (r : Ran) (story : Story) (run : RunsSo
   own =
       all_too S.commands (all_events story) (first_core S.set story.found)
       (subst (λ (es : Events). AllAreOwn (mute S.commands) (first_core S.set story.found) es) (ap (λ es. story.opening ++ es) (sym (flat_is story.lines)))
-      (all_own (mute S.commands) S.set.shape S.set.limits (first_core S.set story.found) _ (opened_kept S r story run.went) (all_come_so S r story run.went) (all_ask_so S r story run.went)))
+      (all_own (mute S.commands) S.set.shape S.set.limits (first_core S.set story.found) (story.opening ++ flat_events story.lines) (opened_kept S r story run.went) (all_come_so S r story run.went) (all_ask_so S r story run.went)))
 
   so : IsSoFar (start_of S r) (starts_in (first_core S.set story.found) (all_events story)) (last_core S story)
   so = record { found = story.found; events = all_events story; opens = run.begins; may = may; own = own; gives = refl; starts_are = refl }
