@@ -23,7 +23,7 @@ use Rattle.hs_cluster.specs.Past.{HoldsLog, LeavesPast}
 use Rattle.hs_cluster.specs.PeerLogs.{KeepsPeers}
 use Rattle.hs_cluster.specs.Rooms.{HaveRecordRoom}
 use Rattle.hs_cluster.specs.Running.{Running}
-use Rattle.hs_cluster.specs.RunsOn.{CanRunOn, RunsOn, from_opening}
+use Rattle.hs_cluster.specs.RunsOn.{CanRunOn, RunsOn}
 use Rattle.hs_cluster.specs.Steady.{AreSteady}
 use Rattle.hs_core_words.specs.State.{Core}
 use Rattle.hs_events.specs.Course.{happened, steps}

@@ -106,11 +106,11 @@ impl Cluster {
         // And, with any number of copies, what a stop leaves of each shard's disks meanwhile.
         ensures shards { OnErr result ((shard : ℕ) → shard < shape.shards
             → LeavesShard D.tells shape (record {
-          before = watch.old;
-          now = watch.new;
-          old = map (λ disk. seen_as (D.size disk) (D.stands disk) (D.faults disk)) disks.old;
-          new = map (λ disk. seen_as (D.size disk) (D.stands disk) (D.faults disk)) disks.new;
-        }) shard) }
+              before = watch.old;
+              now = watch.new;
+              old = map (λ disk. seen_as (D.size disk) (D.stands disk) (D.faults disk)) disks.old;
+              new = map (λ disk. seen_as (D.size disk) (D.stands disk) (D.faults disk)) disks.new;
+            }) shard) }
         // And a stop leaves no header on the disk of a peer but its own, where it left none before.
         ensures headed { OnErr result ((peer : ℕ) → peer < length disks.old
             → KeepsItsHeader D.tells (own_header shape peer) watch.old watch.new

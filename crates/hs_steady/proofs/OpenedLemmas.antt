@@ -1,12 +1,11 @@
 -- As a store opens each good peer's log has the list that its shard opens with, and nothing waits there.
-use Rattle.std.proofs.Common.{◌≡◌, ◌∙◌, ap, sym, subst, refl, inl, inr, ℕ, ◌+◌, ◌-◌, ◌*◌, ◌/◌, ◌<◌, ◌≤◌, not, Bool, true, false, if◌then◌else◌, List, [], ◌++◌, Option, Some, None, flat_map, length, arith}
+use Rattle.std.proofs.Common.{◌≡◌, ◌∙◌, ap, sym, subst, refl, inl, inr, ℕ, ◌+◌, ◌-◌, ◌*◌, ◌/◌, ◌<◌, ◌≤◌, not, Bool, true, false, if◌then◌else◌, List, [], ◌++◌, Some, None, flat_map, length, arith}
 use Rattle.std.proofs.Math.ListN.{get_or-map}
 use Rattle.std.proofs.Math.Nat.{div-mul-le_self, lt-div-mul-add}
 use Rattle.std.proofs.lemmas.Bool.{cases_lt}
 use Rattle.std.proofs.lemmas.List.{get_or-drop, get_or-replicate, get_or-take, get_or_past, take_at}
 use Rattle.std.proofs.lemmas.List.FromFn.{get_or-map-range_with_len, length-enumerate_from}
 use Rattle.std.specs.Prelude.{drop, slice_index, slice_index_or, take}
-use Rattle.hs_awaiting.specs.Words.{each}
 use Rattle.hs_cluster.specs.Opens.{OpensLists}
 use Rattle.hs_cluster.specs.PeerLogs.{log_of_peer}
 use Rattle.hs_cluster.specs.Sealed.{sealed_front}

@@ -37,13 +37,13 @@ pub fn a_store_in_step_shows_its_lists()
         → ((peer : ℕ) → (seen_at span.old peer).stands.last ≤ span.before) → MayOpenWhole set opens.found
         → (first_core set opens.found).ended ≡ None
         → LeavesLists (open_whole set opens.found) opens.events (record {
-            before = opens.found.opened;
-            now = span.now;
-            old = opens.begun;
-            new = cluster;
-            disks = opens.disks;
-            left = span.new;
-          })
+          before = opens.found.opened;
+          now = span.now;
+          old = opens.begun;
+          new = cluster;
+          disks = opens.disks;
+          left = span.new;
+        })
         × OnOk done (KeepsPeers (runs whole_machine (open_whole set opens.found) opens.events) cluster.logs span.new
-            span.now) }
+        span.now) }
 {}
