@@ -41,10 +41,9 @@ pub record PromisedWhereTold (S : Script) (r : Ran) : Type 0 where
   pub aside : (peer : ℕ) → peer < length r.old.disks → is_aside S r peer ≡ true → DiskRose r 1 peer ⊎ (list_in (disk_at r.old.disks peer).seen ≡ None)
   pub notes : NotesCause S r
 
--- so far with one copy a shard: why one is lost, whatever the disks tell; what notes tell, and how long a peer is good
+-- so far with one copy a shard: why one is lost, whatever the disks tell; and what notes tell
 pub record PromisedAlone (tells : Type 0) (S : Script) (r : Ran) : Type 0 where
   pub cause : Cause S r r.ending
-  pub good : IsGoodUntold S r
   pub notes_end : NotesEnd r
   pub told : tells → PromisedWhereTold S r
 
@@ -62,6 +61,7 @@ pub record Promised (tells : Type 0) (S : Script) (r : Ran) : Type 0 where
   pub calm : EndsCalm S r
   pub ordered : IsOrdered S.commands r.journal
   pub none_good : r.course ≡ [] → NoneGoodCause S r
+  pub good : IsGoodUntold S r
   pub ends : IfSome r.old.left (λ script. IfSome r.new.left (Ends r script))
   pub shape : tells → ShapeCause S r
   pub headers : tells → KeepsHeaders S r
