@@ -99,8 +99,12 @@ module _ (opening : OpeningLaws) (laws : CallLaws) (tells : Type 0) (told : tell
       never true = refl
       never false = refl
 
+      none_of : (line : ℕ) → (line ≡ 0) ⊎ (line ≡ 0) → line ≡ 0
+      none_of line (inl is) = is
+      none_of line (inr is) = is
+
       mute_line : (line peer : ℕ) → (line ≡ 0) ⊎ (line ≡ 0) → mute commands line ≡ Some (command.Start peer) → ⊥
-      mute_line line peer is asks = let zero_line : line ≡ 0 = elim is [| inl a ↦ a | inr b ↦ b] in let both : None ≡ Some (command.Start peer) = ap (mute commands) (sym zero_line) ∙ asks in cc both
+      mute_line line peer is asks = let zero_line : line ≡ 0 = none_of line is in let both : None ≡ Some (command.Start peer) = ap (mute commands) (sym zero_line) ∙ asks in cc both
 
       by_event : (x : Event) → Its (mute commands) 0 c x → cond (is_none c.ended && is_some (starts_peer c x)) 1 0 ≡ 0
       by_event (event.Line line o) i = never (is_none c.ended)

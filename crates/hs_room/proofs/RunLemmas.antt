@@ -12,6 +12,7 @@ use Rattle.hs_events.specs.Due.{Events}
 use Rattle.hs_events.specs.Found.{first_core}
 use Rattle.hs_journal.specs.Events.{client_op}
 use Rattle.hs_model.specs.declared.command.Command.{Command}
+use Rattle.hs_model.specs.declared.command.Command.TheVariants as command
 use Rattle.hs_promise.specs.Ending.{ending_of}
 use Rattle.hs_promise.specs.Run.{Ran, Script}
 use Rattle.hs_promise.specs.Story.{Story, all_events, last_core}
@@ -33,16 +34,20 @@ module _ (commands : ℕ → Option Command) where
   clients_too zero some = absurd (cc some)
   clients_too (suc line) some = some
 
+  side_too : {A : Type 0} (line : ℕ) (x : Command) → A ⊎ (mute commands line ≡ Some x) → A ⊎ (commands line ≡ Some x)
+  side_too line x (inl free) = inl free
+  side_too line x (inr its) = inr (mute_some commands line x its)
+
   own_too : (e : Event) (c : Core) → IsOwnEvent (mute commands) c e → IsOwnEvent commands c e
   own_too (event.Line line o) c own = (own.0, clients_too line own.1)
   own_too (event.Report peer d) c own = own
-  own_too (event.Turn line peer) c own = (own.0, elim own.1 [| inl free ↦ inl free | inr its ↦ inr (mute_some commands line _ its)])
-  own_too (event.Deliver line number) c own = (own.0, elim own.1 [| inl free ↦ inl free | inr its ↦ inr (mute_some commands line _ its)])
-  own_too (event.Lose line number) c own = (own.0, elim own.1 [| inl free ↦ inl free | inr its ↦ inr (mute_some commands line _ its)])
-  own_too (event.Repeat line number) c own = (own.0, elim own.1 [| inl free ↦ inl free | inr its ↦ inr (mute_some commands line _ its)])
-  own_too (event.Nudge line peer) c own = (own.0, elim own.1 [| inl free ↦ inl free | inr its ↦ inr (mute_some commands line _ its)])
-  own_too (event.Fail line peer) c own = (own.0, elim own.1 [| inl free ↦ inl free | inr its ↦ inr (mute_some commands line _ its)])
-  own_too (event.Start line peer) c own = (own.0, elim own.1 [| inl free ↦ inl free | inr its ↦ inr (mute_some commands line _ its)])
+  own_too (event.Turn line peer) c own = (own.0, side_too line (command.Turn peer) own.1)
+  own_too (event.Deliver line number) c own = (own.0, side_too line (command.Deliver number) own.1)
+  own_too (event.Lose line number) c own = (own.0, side_too line (command.Lose number) own.1)
+  own_too (event.Repeat line number) c own = (own.0, side_too line (command.Repeat number) own.1)
+  own_too (event.Nudge line peer) c own = (own.0, side_too line (command.Nudge peer) own.1)
+  own_too (event.Fail line peer) c own = (own.0, side_too line (command.Fail peer) own.1)
+  own_too (event.Start line peer) c own = (own.0, side_too line (command.Start peer) own.1)
 
   all_too : (es : Events) (c : Core) → AllAreOwn (mute commands) c es → AllAreOwn commands c es
   all_too [] c own = tt

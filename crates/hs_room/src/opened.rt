@@ -9,7 +9,7 @@ ghost use Rattle.hs_journal.specs.Events.{client_op};
 ghost use Rattle.hs_limits.specs.Shape.{IsShape};
 ghost use Rattle.hs_measure.specs.Between.{start_of};
 ghost use Rattle.hs_model.specs.declared.command.Command.{Command};
-ghost use Rattle.hs_room.specs.Room.{Call, EndsWell, KeepsRoom, entries_most};
+ghost use Rattle.hs_room.specs.Room.{EndsWell, KeepsRoom, entries_most};
 ghost use Rattle.hs_sound.specs.Stay.{AreSoundAlong};
 ghost use Rattle.hs_standing.specs.Held.{GivesAddresses};
 ghost use Rattle.hs_standing.specs.Lists.{whole_from};

@@ -53,7 +53,7 @@ good_kept (item.Bad q at ∷ items) m p h = ap (λ t. good_from (if t && nat_lt 
 good_kept (item.Begun line at ∷ items) m p h = good_kept items m p h.1
 good_kept (item.Took shard number at ∷ items) m p h = good_kept items m p h.1
 
-pub good_there : (good : Bool) (items : List CourseItem) (m p : ℕ) → AllByRecursion (NotBad p) items → list_any (is_good_below m p) items ≡ true → good_from good items m p ≡ true
+good_there : (good : Bool) (items : List CourseItem) (m p : ℕ) → AllByRecursion (NotBad p) items → list_any (is_good_below m p) items ≡ true → good_from good items m p ≡ true
 good_there good [] m p h e = absurd (cc e)
 good_there good (item.Good q at ∷ items) m p h e = go (λ k. good_there good items m p h.1 k) (q == p && nat_lt at m) e
   where
