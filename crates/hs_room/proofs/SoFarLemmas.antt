@@ -28,7 +28,7 @@ may_append start core [] fs may more = more
 may_append start core (e ∷ es) fs may more = (may.0, may_append start (step e.0 e.1 core) es fs may.1 more)
 
 -- the starts of some events and of those behind them
-starts_both : (core : Core) (es fs : Events) → starts_in core (es ++ fs) ≡ starts_in core es + starts_in (steps core es) fs
+pub starts_both : (core : Core) (es fs : Events) → starts_in core (es ++ fs) ≡ starts_in core es + starts_in (steps core es) fs
 starts_both core [] fs = refl
 starts_both core (e ∷ es) fs = let rest = starts_both (step e.0 e.1 core) es fs in omega (arith, rest)
 

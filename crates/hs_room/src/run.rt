@@ -1,26 +1,27 @@
 //! A run whose journal has room.
-ghost use Rattle.std.specs.Prelude.{◌≡◌, ◌+◌, ◌≤◌, ◌⊎◌, ℕ};
+ghost use Rattle.std.specs.Prelude.{◌≡◌, ◌≤◌, ℕ};
 ghost use Rattle.hs_clauses.specs.Shown.{RunsSoundly};
-ghost use Rattle.hs_events.specs.Found.{first_core};
 ghost use Rattle.hs_promise.specs.Run.{Ran, Script};
-ghost use Rattle.hs_promise.specs.Story.{Story, all_events};
+ghost use Rattle.hs_promise.specs.Story.{Story};
 ghost use Rattle.hs_promise.specs.declared.status.Status.TheVariants as status;
-ghost use Rattle.hs_room.specs.Room.{entries_most, starts_in};
+ghost use Rattle.hs_room.specs.Room.{entries_most};
 
-use crate::journal::a_journal_has_room;
 use hs_clauses::a_run_stands;
+use hs_measure::each_event_keeps_the_promise;
+use hs_memory::catalogues_in_memory_are_folds;
+use hs_settled::the_first_shard_enters_for_a_line;
 
 /// A run of a script that begins over sound lists, and whose reports tell the bytes of their blocks, with any
-/// number of copies, whether disks fail or not: where the journal's limit has room for the lines that were
-/// begun, it does not end as OpsFull. With several copies one more entry is asked for each `start` line that was
-/// not refused.
+/// number of copies, whether disks fail or not, does not end as OpsFull where the journal's limit has room for the
+/// lines that were begun: one entry a line, twice as many for a shard and one for the store as epochs may pass, and
+/// one a peer. A `start` line that was not refused has no entry, so that its note, which is one more, has that room.
 pub fn a_run_with_room_is_not_full()
     ensures { (S : Script) (r : Ran) (story : Story) → RunsSoundly S r story
-        → (more : ℕ)
-        → (S.set.shape.copies ≡ 1) ⊎ (starts_in (first_core S.set story.found) (all_events story) ≤ more)
-        → entries_most S.commands S.set.shape r.line + more ≤ S.set.limits.ops
+        → entries_most S.commands S.set.shape r.line ≤ S.set.limits.ops
         → r.ending ≡ status.OpsFull → ⊥ }
 {
-    a_journal_has_room();
     a_run_stands();
+    each_event_keeps_the_promise();
+    the_first_shard_enters_for_a_line();
+    catalogues_in_memory_are_folds();
 }
