@@ -6,7 +6,7 @@ use Rattle.hs_settled.proofs.CausesRunLemmas.{are_lines, lined, mute_is}
 use Rattle.hs_settled.proofs.EndLemmas.{Ended, walk_ended}
 use Rattle.hs_settled.proofs.PartLemmas.{NoneOf, OwnLine, Parted, Side, all_mid, lines_none, own_line, parted, side}
 use Rattle.hs_settled.proofs.PartLemmas.Side.{Early, Late}
-use Rattle.hs_settled.proofs.StartLineLemmas.{is_started}
+use Rattle.hs_settled.proofs.StartLineLemmas.{is_started, low}
 use Rattle.hs_core_words.specs.Asking.{no_peer, not_down}
 use Rattle.hs_core_words.specs.declared.event.Event.{Event}
 use Rattle.hs_core_words.specs.declared.event.Event.TheVariants as event
@@ -128,7 +128,7 @@ module _ (S : Script) (r : Ran) (story : Story) (went : Went S r story) (g : ℕ
                 ∙ stays_at p Joining (mid ++ at_settle.own) (all_events at_settle.rest) (step e.0 e.1 there)
                 (subst (λ xs. StaysAs p Joining (step e.0 e.1 there) xs) (rest ∙ sym (append_assoc mid at_settle.own (all_events at_settle.rest))) stays)
             by_side (Late mid front rest) =
-                absurd (all_mid (λ (x : Event × ℕ). line_of x.0 ≡ line → ⊥) mid e after (subst (λ xs. NoneOf line xs) rest (lines_none (lined S r) k core_k (at_settle.own ∷ at_settle.rest) at_settle.here line low above)) of_line)
+                absurd (all_mid (λ (x : Event × ℕ). line_of x.0 ≡ line → ⊥) mid e after (subst (λ xs. NoneOf line xs) rest (lines_none (lined S r) k core_k (at_settle.own ∷ at_settle.rest) at_settle.here line (low S r story went p line before e after is starts free) above)) of_line)
 
         pub none_settled : ⊥
         none_settled = none_joins (steps core_k at_settle.own) tuned.0 tuned.1
