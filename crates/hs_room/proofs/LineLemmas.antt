@@ -1,5 +1,5 @@
 -- A line of a cluster whose core is that of a run so far.
-use Rattle.std.proofs.Common.{◌≡◌, ◌⊎◌, inl, inr, ◌∙◌, ap, sym, subst, ℕ, ◌+◌, ◌<◌, ◌≤◌, true, List, Option, Some, None, refl, arith}
+use Rattle.std.proofs.Common.{◌≡◌, ◌⊎◌, inl, inr, ◌∙◌, ap, sym, subst, ℕ, ◌+◌, ◌<◌, ◌≤◌, List, Option, Some, None, refl, arith}
 use Rattle.std.proofs.lemmas.Bool.{cases_eq}
 use Rattle.std.specs.Prelude.{⊤, Result}
 use Rattle.hs_clauses.specs.Numbered.{AreNumbered}
@@ -18,7 +18,6 @@ use Rattle.hs_measure.proofs.AlongLemmas.{Comes, LineLaws, may_come}
 use Rattle.hs_measure.proofs.LineLemmas.{are as line_are, at as line_at, come as line_come, comes as line_comes}
 use Rattle.hs_measure.specs.Between.{IsInRun}
 use Rattle.hs_model.specs.declared.command.Command.{Command}
-use Rattle.hs_model.specs.declared.command.Command.TheVariants as command
 use Rattle.hs_room.proofs.CallLemmas.{CallLaws, by_report, call_alone, call_ends, call_moments, call_so_far, lost_line, not_full}
 use Rattle.hs_room.proofs.LostLemmas.{FellIn}
 use Rattle.hs_room.proofs.SoFarLemmas.{numbered}

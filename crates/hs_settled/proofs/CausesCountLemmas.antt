@@ -9,7 +9,7 @@ use Rattle.std.proofs.lemmas.List.Sums.{sum_by-cons}
 use Rattle.std.proofs.Math.Nat.{le-min, min-le_left, min-le_right}
 use Rattle.std.specs.List.{AllByRecursion, list_any, range_with_len, slice_get}
 use Rattle.std.specs.Option.{option_map_or}
-use Rattle.std.specs.Prelude.{Contains, count_by, if◌then◌else◌, length}
+use Rattle.std.specs.Prelude.{Contains, count_by, if◌then◌else◌}
 use Rattle.hs_settled.proofs.CourseLemmas.{InRange, any_left, find_in, never_good, no_good, not_begins, taken_begins}
 use Rattle.hs_settled.proofs.AddingLemmas.{GoesOn}
 use Rattle.hs_settled.proofs.CausesFirstLemmas.{IsFirst, members_first, room_first, told_first}

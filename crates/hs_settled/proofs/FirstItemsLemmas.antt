@@ -1,5 +1,5 @@
 -- What the items with which a course begins tell of a peer that is good as the core opens: its Good, and no Bad; and that lines are begun behind them.
-use Rattle.std.proofs.Common.{◌≡◌, ◌≢◌, ◌⊎◌, inl, inr, ◌∙◌, ap, sym, subst, ℕ, zero, suc, ◌+◌, ◌*◌, ◌<◌, ◌≤◌, ◌==◌, ◌&&◌, ◌||◌, ◌++◌, Bool, true, false, List, [], ◌∷◌, Option, Some, None, refl, arith, map, nat_lt}
+use Rattle.std.proofs.Common.{◌≡◌, ◌≢◌, ◌⊎◌, inl, inr, ◌∙◌, ap, sym, ℕ, zero, suc, ◌+◌, ◌*◌, ◌<◌, ◌≤◌, ◌==◌, ◌&&◌, ◌||◌, ◌++◌, Bool, true, false, List, [], ◌∷◌, Option, Some, None, refl, arith, map, nat_lt}
 use Rattle.std.proofs.lemmas.Bool.{cases_eq, eq-eqb, ne_eqb}
 use Rattle.std.proofs.lemmas.Bool.Decides.{nat_tests}
 use Rattle.std.proofs.lemmas.List.Elements.{All-contains, All-from_recursion, recursion_from_All}
@@ -15,12 +15,11 @@ use Rattle.hs_core_words.specs.declared.event.Event.{Event}
 use Rattle.hs_core_words.specs.Looking.{front_of, shape_of, shards_of, status_of}
 use Rattle.hs_core_words.specs.State.{Core}
 use Rattle.hs_core_words.specs.Step.{step}
-use Rattle.hs_entry.specs.Entries.{rank_of}
 use Rattle.hs_events.specs.Beginning.{first_items}
 use Rattle.hs_events.specs.Course.{change_item, event_items, is_refused, items_between, items_of, took_items}
 use Rattle.hs_events.specs.Due.{Events, MomentsRise}
 use Rattle.hs_events.specs.Found.{Found, starts_good}
-use Rattle.hs_events.specs.Taken.{is_taken, taken_items, taken_list, taken_peer}
+use Rattle.hs_events.specs.Taken.{is_taken, taken_items, taken_peer}
 use Rattle.hs_fold.specs.Good.{IsBegun, good_from}
 use Rattle.hs_fold.specs.Shards.Course.{is_good_below}
 use Rattle.hs_limits.specs.declared.shape.Shape.{Shape}
