@@ -1,5 +1,5 @@
 -- Lists of one rank are one, where disks of one shard may have them.
-use Rattle.std.proofs.Common.{◌≡◌, ◌∙◌, ap, sym, subst, refl, inl, inr, ℕ, zero, suc, ◌+◌, ◌<◌, ◌≤◌, true, false, List, [], ◌∷◌, ◌++◌, Some, length, map, fold, arith}
+use Rattle.std.proofs.Common.{◌≡◌, ◌∙◌, ap, sym, subst, refl, inl, inr, ℕ, zero, suc, ◌+◌, ◌<◌, ◌≤◌, true, false, List, [], ◌∷◌, ◌++◌, Some, None, length, map, fold, arith}
 use Rattle.std.proofs.lemmas.Bool.{cases_lt}
 use Rattle.std.proofs.lemmas.List.{take-map, take_at}
 use Rattle.std.proofs.lemmas.List.Elements.{All-head, All-tail}
@@ -24,7 +24,7 @@ use Rattle.hs_fold.specs.Shards.Setting.{Numbered}
 use Rattle.hs_members.specs.Members.{IsPeer}
 use Rattle.hs_moments.specs.WholeMachine.{IsFrontOf}
 use Rattle.hs_replica.specs.Group.{view_after}
-use Rattle.hs_whole_copies.proofs.LineageLemmas.{front_has, front_takes, one_to}
+use Rattle.hs_whole_copies.proofs.LineageLemmas.{one_to}
 use Rattle.hs_whole_copies.proofs.ReachLemmas.{longest_front}
 use Rattle.hs_whole_copies.specs.Whole.{ArePlain, IsShardInStep, IsWholeInStep, longest}
 use Rattle.hs_steady.proofs.SteadyLemmas.{its_shard}
@@ -89,6 +89,18 @@ take_long zero m zs a b = omega (arith, a)
 take_long (suc n) m [] a b = b
 take_long (suc n) zero (z ∷ zs) a b = omega arith
 take_long (suc n) (suc m) (z ∷ zs) a b = let r = take_long n m zs (omega (arith, a)) (omega (arith, b)) in omega (arith, r)
+
+front_has : {X : Type 0} (xs ys : List X) (n : ℕ) (x : X) → IsFront xs ys → slice_get xs n ≡ Some x → slice_get ys n ≡ Some x
+front_has [] ys n x f e = let wrong : None ≡ Some x = e in absurd (cc wrong)
+front_has (z ∷ xs) [] n x f e = absurd f
+front_has (z ∷ xs) (y ∷ ys) zero x f e = ap Some (sym f.0) ∙ e
+front_has (z ∷ xs) (y ∷ ys) (suc n) x f e = front_has xs ys n x f.1 e
+
+front_takes : {X : Type 0} (xs ys : List X) (n : ℕ) → IsFront xs ys → n ≤ length xs → take n xs ≡ take n ys
+front_takes xs ys zero f l = refl
+front_takes [] ys (suc n) f l = absurd (omega (arith, l))
+front_takes (x ∷ xs) [] (suc n) f l = absurd f
+front_takes (x ∷ xs) (y ∷ ys) (suc n) f l = ap (λ z. z ∷ take n xs) f.0 ∙ ap (λ zs. y ∷ zs) (front_takes xs ys n f.1 (omega (arith, l)))
 
 -- the last item of a list
 record IsLast (v : ℕ) (xs : List (Item Entry)) : Type 0 where
