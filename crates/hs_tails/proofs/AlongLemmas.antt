@@ -345,7 +345,7 @@ taken_first (x ∷ xs) ys = ap (λ zs. x ∷ zs) (taken_first xs ys)
 pub takes_first : ByViews → Steps → Entries → (by : Judging) → GivesAddresses by.name → (start : Store) → IsValid start → (core : Core) (event : Event) (moment : ℕ) (cs : List Folded)
     → core.ended ≡ None → IsSeated core → KnowsItsCopies core → HasRecordRoom core → core.refused ≡ [] → MayStand by start event core → IsStanding by start core cs → TakesFirst by start core (step event moment core) cs
 takes_first views steps laws by names start valid core event moment cs going seated known room clean may stands = record {
-  gone = record { after = last.cs; stands = last.stands; took = r.0; fronts = last.fronts; folds = last.folds; rests = last.rests };
+  gone = record { after = last.cs; stands = last.stands; took = r.0; fronts = last.fronts; folds = last.folds; rests = last.rests; history = last.history };
   first = λ g. sym (ap (λ (ws : List Entry). take (length (r.0 g)) ws) (r.1.listed g).parts ∙ taken_first (r.0 g) _);
 }
   where
@@ -364,7 +364,7 @@ takes_first views steps laws by names start valid core event moment cs going sea
     first_along : IsAlong by start Tail s cs (λ g. []) s
     first_along = record {
       gone = gone_start views steps laws by names start valid Tail (began_at s cs) s cs (λ g. refl) (λ g. refl) stands_s
-          (λ g tail rests. rests_alike by.name core s cs g tail (set_on by.name core s beside.limits beside.shape) (beside.front g) rests);
+          (λ g tail rests. rests_alike by.name core s cs g tail (set_on by.name core s beside.limits beside.shape) (beside.front g) rests) (λ h. h);
       listed = λ g. fresh_listed s g s (start_fresh s event (seated_begun event moment core seated) (knows_begun event moment core known) g);
     }
 

@@ -1,12 +1,20 @@
 pub mod AlongLemmas
+pub mod AscendLemmas
+pub mod BeginLemmas
 pub mod BehindLemmas
 pub mod ChosenLemmas
-mod Examples
 pub mod ComingLemmas
+pub mod EntryLemmas
+mod Examples
 pub mod FirstLemmas
 pub mod FrontLemmas
 pub mod GoingLemmas
 pub mod GoneLemmas
 pub mod KnownLemmas
 pub mod LineLemmas
+pub mod RankLemmas
+pub mod ReachLemmas
+pub mod StandsLemmas
+pub mod StepLemmas
+pub mod ViewLemmas
 pub mod WaitsLemmas
