@@ -94,9 +94,9 @@ prefix_takes : (list : Numbered) (xs : List (Item Entry)) → IsPrefix list (num
 prefix_takes list xs p =
     sym (first_of list p.0) ∙ ap (λ (es : Numbered). take (length list) es) (sym p.1) ∙ numbered_take (length list) 1 (map what xs) ∙ ap (λ es. enumerate_from 1 es) (map_take what (length list) xs)
   where
-    first_of : {X : Type 0} (as bs : List X) → take (length as) (as ++ bs) ≡ as
-    first_of [] bs = refl
-    first_of (a ∷ as) bs = ap (λ zs. a ∷ zs) (first_of as bs)
+    first_of : {X : Type 0} (ys zs : List X) → take (length ys) (ys ++ zs) ≡ ys
+    first_of [] zs = refl
+    first_of (y ∷ ys) zs = ap (λ ws. y ∷ ws) (first_of ys zs)
 
 taken_front : {X : Type 0} (n : ℕ) (xs : List X) → IsFront (take n xs) xs
 taken_front zero xs = tt

@@ -203,21 +203,21 @@ module _ (start : Start) (c : Whole) (r : RunsWithTails start c) where
         below = r.turn.turns.below line w.operation.op asking_is
 
     pub tails_stand : HaveOpenLines c r.machines → TailsStand start stop c.core.journal (disks_of c) (lead_lists c) c.core
-    tails_stand open = record {
+    tails_stand lined = record {
       shape = subst (λ (x : Shape). IsShape x) r.shape r.whole.shape;
       within = λ g low. within g low;
       took = took;
       awaited = λ line w at. awaits line w at;
       tails = λ q g home low counted has. (
-        let own : IsOf (shape_of c.core) g q = subst (λ (x : Shape). IsOf x g q) (sym r.shape) home in
-        let good = r.tails g q low own in
-        let had : IsPrefix (took_in r.machines g) (reach c q) = subst (λ (xs : Numbered). IsPrefix xs (reach c q)) (took_is g low) has in
-        record {
-          numbered = subst (λ (xs : Numbered). IsNumbered xs) (sym ((k g low).reaches q own)) (is_numbered (longest q c.core (r.machines g)) ((k g low).plain q own));
-          views = good.views;
-          rests = subst (λ cs. TailRests start.set cs g (front_of g c.core) (tail_behind (front_of g c.core) (reach c q))) (sym folds_are)
-              (subst (λ (x : Setting). TailRests x r.folds g (front_of g c.core) (tail_behind (front_of g c.core) (reach c q))) set_is (good.rests had));
-          lines = open g q (low_in g low) own counted had;
-        }
-      );
+          let own : IsOf (shape_of c.core) g q = subst (λ (x : Shape). IsOf x g q) (sym r.shape) home in
+          let good = r.tails g q low own in
+          let had : IsPrefix (took_in r.machines g) (reach c q) = subst (λ (xs : Numbered). IsPrefix xs (reach c q)) (took_is g low) has in
+          record {
+            numbered = subst (λ (xs : Numbered). IsNumbered xs) (sym ((k g low).reaches q own)) (is_numbered (longest q c.core (r.machines g)) ((k g low).plain q own));
+            views = good.views;
+            rests = subst (λ cs. TailRests start.set cs g (front_of g c.core) (tail_behind (front_of g c.core) (reach c q))) (sym folds_are)
+                (subst (λ (x : Setting). TailRests x r.folds g (front_of g c.core) (tail_behind (front_of g c.core) (reach c q))) set_is (good.rests had));
+            lines = lined g q (low_in g low) own counted had;
+          }
+          );
     }

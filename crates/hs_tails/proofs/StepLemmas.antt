@@ -61,7 +61,7 @@ waits_behind g c s st list f =
     let b = front_behind (length s.took) list s.log f in (
       map what b.0,
       st.stands.waiting ∙ ap (λ (xs : List (Item Entry)). map what xs) b.1 ∙ map-append what (drop (length s.took) list) b.0
-      ∙ ap (λ es. es ++ map what b.0) (sym (dropped_map what (length s.took) list)) ∙ ap (λ n. drop n (map what list) ++ map what b.0) (sym st.stands.front),
+          ∙ ap (λ es. es ++ map what b.0) (sym (dropped_map what (length s.took) list)) ∙ ap (λ n. drop n (map what list) ++ map what b.0) (sym st.stands.front),
     )
 
 pub lead_rests : (by : Judging) (start : Store) (c : Core) (cs : List Folded) → IsStanding by start c cs → HasRecordRoom c → (g : ℕ) → g < (shape_of c).shards → (s : Copies Entry) → IsInStep g c s → (list : List (Item Entry)) → IsFront list s.log
