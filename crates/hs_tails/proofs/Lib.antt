@@ -6,6 +6,7 @@ pub mod ChosenLemmas
 pub mod ComingLemmas
 pub mod EntryLemmas
 mod Examples
+pub mod FineLemmas
 pub mod FirstLemmas
 pub mod FrontLemmas
 pub mod GoingLemmas
@@ -14,6 +15,7 @@ pub mod KnownLemmas
 pub mod LineLemmas
 pub mod RankLemmas
 pub mod ReachLemmas
+pub mod SameViewLemmas
 pub mod StandsLemmas
 pub mod StepLemmas
 pub mod ViewLemmas

@@ -87,6 +87,10 @@ rank_is : (xs : List (Item Entry)) → ArePlain (map what xs) → rank_of (numbe
 unfolding rank_of
 rank_is xs plain = let same : 0 + length xs ≡ length xs = omega arith in rank_from 0 0 xs plain ∙ ap (λ m. record { view = view_told view_after 0 xs; number = m }) same
 
+rank_none : rank_of [] ≡ record { view = 0; number = 0 }
+unfolding rank_of
+rank_none = refl
+
 -- ---- fronts
 
 -- a list that begins one with numbers is the front of it of that length
@@ -221,22 +225,14 @@ module _ (start : Start) (c : Whole) (r : RunsWithTails start c) (g : ℕ) (low 
   module _ (none : left y ≡ []) where
     nothing : left h.good ≡ []
     nothing = no_entries (left h.good) (elim at_least [
-      | inl view ↦ (let zero_view = ap (λ (xs : Numbered). (rank_of xs).view) none ∙ no_view in absurd (omega (arith, view, zero_view)))
+      | inl view ↦ (let zero_view = ap (λ (xs : Numbered). (rank_of xs).view) none ∙ ap (λ (x : Rank). x.view) rank_none in absurd (omega (arith, view, zero_view)))
       | inr same ↦
-          let number = ap (λ (xs : Numbered). (rank_of xs).number) none ∙ no_number in
+          let number = ap (λ (xs : Numbered). (rank_of xs).number) none ∙ ap (λ (x : Rank). x.number) rank_none in
           let count = ap (λ (x : Rank). x.number) rank_good in
           let long = fs_long in
           let up = same.1 in
           omega (arith, number, count, long, up)
     ])
-      where
-        no_view : (rank_of []).view ≡ 0
-        unfolding rank_of
-        no_view = refl
-
-        no_number : (rank_of []).number ≡ 0
-        unfolding rank_of
-        no_number = refl
 
     none_took : took_of (lead_lists c) g ≡ []
     none_took =
