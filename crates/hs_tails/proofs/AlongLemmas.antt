@@ -126,11 +126,11 @@ module _ (s : Core) (e : Event) (seated : IsSeated s) (known : KnowsItsCopies s)
   aside_on a b (Views shard) = still a b refl refl (λ g. refl)
 
   -- the front of each shard is as it was where a peer falls or has joined
-  falls_front : (a : Core) → a.groups ≡ s.groups → a.members ≡ s.members → (g : ℕ) → front_of g a ≡ front_of g s
+  pub falls_front : (a : Core) → a.groups ≡ s.groups → a.members ≡ s.members → (g : ℕ) → front_of g a ≡ front_of g s
   falls_front a lists members g =
       ap (λ (x : Group). x.front) (ap (λ (gs : List Group). slice_index_or gs g (new_group (shape_of a) g 0 0 [])) lists ∙ ap (λ (m : Members). slice_index_or s.groups g (new_group m.shape g 0 0 [])) members)
 
-  joins_front : (a : Core) (peer : ℕ) → IsBehind s (Some e) a peer → (g : ℕ) → front_of g a ≡ front_of g s
+  pub joins_front : (a : Core) (peer : ℕ) → IsBehind s (Some e) a peer → (g : ℕ) → front_of g a ≡ front_of g s
   joins_front a peer (ByEmptying k is) g = ap (λ (x : Core). front_of g x) is ∙ (lists_aside (Empties peer k)).front g
   joins_front a peer (ByCopying number k is) g = ap (λ (x : Core). front_of g x) is ∙ (lists_aside (Copies peer number k)).front g
 

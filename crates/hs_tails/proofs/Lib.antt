@@ -13,10 +13,14 @@ pub mod GoingLemmas
 pub mod GoneLemmas
 pub mod KnownLemmas
 pub mod LineLemmas
+pub mod LinedLemmas
+pub mod LinedWalk
+pub mod MovedLemmas
 pub mod RankLemmas
 pub mod ReachLemmas
 pub mod SameViewLemmas
 pub mod StandsLemmas
 pub mod StepLemmas
+pub mod TellingLemmas
 pub mod ViewLemmas
 pub mod WaitsLemmas
