@@ -91,7 +91,7 @@ module _ (below : LawsBelow) (start : Start) (found : Found) (b : RunBegins star
       subst (λ (s : Store). IsValid s) (sym (b.entry ∙ no_sessions (opened_folds start.set found)))
       (folds_valid start.set.name fresh (opened_folds start.set found) (may_open below.memory start.set found b.soundly start.commands).lawful)
 
-  first_stands : RunStands start (first_core start.set found) (opened_folds start.set found)
+  pub first_stands : RunStands start (first_core start.set found) (opened_folds start.set found)
   first_stands =
       first_held (λ core. RunStands start core (opened_folds start.set found))
       (record {
@@ -106,16 +106,16 @@ module _ (below : LawsBelow) (start : Start) (found : Found) (b : RunBegins star
   members_are : (first_core start.set found).members ≡ first_members start.set.shape (opens_with start.set found)
   members_are = (ends (note_down (begin_views fresh))).members ∙ told_members start.set.shape start.set.limits (opens_with start.set found) found.opened
 
-  first_shape : shape_of (first_core start.set found) ≡ start.set.shape
+  pub first_shape : shape_of (first_core start.set found) ≡ start.set.shape
   first_shape = ap (λ (m : Members). m.shape) members_are
 
-  status_at : (q : ℕ) → status_of q (first_core start.set found) ≡ (if starts_good found q then Good else Down)
+  pub status_at : (q : ℕ) → status_of q (first_core start.set found) ≡ (if starts_good found q then Good else Down)
   status_at q = ap (λ (m : Members). status q m) members_are ∙ get_or-map (λ g. if g then Good else Down) found.good q false
 
-  opened : (machines : ℕ → Copies Entry) × IsWholeInStep (open_whole start.set found) machines
+  pub opened : (machines : ℕ → Copies Entry) × IsWholeInStep (open_whole start.set found) machines
   opened = opens_whole start.set found (whole_opens start.set found b.soundly) on
 
-  low_first : (g : ℕ) → g < start.set.shape.shards → g < (shape_of (first_core start.set found)).shards
+  pub low_first : (g : ℕ) → g < start.set.shape.shards → g < (shape_of (first_core start.set found)).shards
   low_first g low = subst (λ (x : Shape). g < x.shards) (sym first_shape) low
 
   zero_left : (g : ℕ) → 0 + g ≡ g
@@ -125,7 +125,7 @@ module _ (below : LawsBelow) (start : Start) (found : Found) (b : RunBegins star
   took_is g low = took_first start.set found (whole_opens start.set found b.soundly) opened.0 opened.1 g low
 
   module _ (g : ℕ) (low : g < start.set.shape.shards) where
-    k : IsShardInStep g (open_whole start.set found) (opened.0 g)
+    pub k : IsShardInStep g (open_whole start.set found) (opened.0 g)
     k = opened.1.each g (low_first g low)
 
     front_is : last_of (opened_list start.set found g) ≡ front_of g (first_core start.set found)
@@ -144,14 +144,22 @@ module _ (below : LawsBelow) (start : Start) (found : Found) (b : RunBegins star
               (lead_rests (judging_of start) start.entry (first_core start.set found) (opened_folds start.set found) first_stands few g (low_first g low) (opened.0 g) k.in_step list front);
         }
 
-    tails_first : (q : ℕ) → IsOf (shape_of (first_core start.set found)) g q → HasGoodTail start (open_whole start.set found) opened.0 (opened_folds start.set found) g q
-    tails_first q own = go (starts_good found q) refl
+    -- what a disk may have is a front of the lead's list
+    pub first_list : (q : ℕ) → IsOf (shape_of (first_core start.set found)) g q → (list : List (Item Entry)) × ((reach (open_whole start.set found) q ≡ numbered list) × IsFront list (opened.0 g).log)
+    first_list q own = go (starts_good found q) refl
       where
-        go : (x : Bool) → starts_good found q ≡ x → HasGoodTail start (open_whole start.set found) opened.0 (opened_folds start.set found) g q
-        go true e = good_first q (longest q (first_core start.set found) (opened.0 g)) (k.reaches q own)
-            (good_front g q (first_core start.set found) (opened.0 g) k.in_step own (status_at q ∙ ap (λ x. if x then Good else Down) e))
-        go false e = good_first q []
-            (ap (λ x. (if x then grown (group_of (home q (first_core start.set found)) (first_core start.set found)) q (opened_list start.set found (home q (first_core start.set found))) else []) ++ []) e) tt
+        go : (x : Bool) → starts_good found q ≡ x → (list : List (Item Entry)) × ((reach (open_whole start.set found) q ≡ numbered list) × IsFront list (opened.0 g).log)
+        go true e = (
+          longest q (first_core start.set found) (opened.0 g),
+          (k.reaches q own, good_front g q (first_core start.set found) (opened.0 g) k.in_step own (status_at q ∙ ap (λ x. if x then Good else Down) e)),
+        )
+        go false e = (
+          [],
+          (ap (λ x. (if x then grown (group_of (home q (first_core start.set found)) (first_core start.set found)) q (opened_list start.set found (home q (first_core start.set found))) else []) ++ []) e, tt),
+        )
+
+    tails_first : (q : ℕ) → IsOf (shape_of (first_core start.set found)) g q → HasGoodTail start (open_whole start.set found) opened.0 (opened_folds start.set found) g q
+    tails_first q own = let l = first_list q own in good_first q l.0 l.1.0 l.1.1
 
   history_first : AreAscending start.set (λ g. front_of g (first_core start.set found)) (opened_folds start.set found)
   history_first =

@@ -16,9 +16,12 @@ pub mod LineLemmas
 pub mod LinedLemmas
 pub mod LinedWalk
 pub mod MovedLemmas
+pub mod OpenFirstLemmas
+pub mod OpenLinesLemmas
 pub mod RankLemmas
 pub mod ReachLemmas
 pub mod SameViewLemmas
+pub mod StampedLemmas
 pub mod StandsLemmas
 pub mod StepLemmas
 pub mod TellingLemmas

@@ -64,7 +64,7 @@ one_dropped (suc n) (x ∷ t) (w ∷ ws) entry same at =
 
 -- ---- Views
 
-cleared_at : (xs : List Bool) (k : ℕ) → slice_index_or (slice_set xs k false) k false ≡ false
+pub cleared_at : (xs : List Bool) (k : ℕ) → slice_index_or (slice_set xs k false) k false ≡ false
 cleared_at [] k = refl
 cleared_at (x ∷ xs) zero = refl
 cleared_at (x ∷ xs) (suc k) = cleared_at xs k
@@ -74,7 +74,7 @@ reached_at [] k = inr refl
 reached_at (x ∷ xs) zero = inl refl
 reached_at (x ∷ xs) (suc k) = reached_at xs k
 
-set_elsewhere : (xs : List Bool) (k j : ℕ) (b : Bool) → (j ≡ k → ⊥) → slice_index_or (slice_set xs k b) j false ≡ slice_index_or xs j false
+pub set_elsewhere : (xs : List Bool) (k j : ℕ) (b : Bool) → (j ≡ k → ⊥) → slice_index_or (slice_set xs k b) j false ≡ slice_index_or xs j false
 set_elsewhere [] k j b apart = refl
 set_elsewhere (x ∷ xs) zero zero b apart = absurd (apart refl)
 set_elsewhere (x ∷ xs) zero (suc j) b apart = refl

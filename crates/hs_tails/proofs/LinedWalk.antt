@@ -22,7 +22,7 @@ use Rattle.hs_core_words.specs.declared.event.Event.TheVariants as event
 use Rattle.hs_core_words.specs.Failing.{leave}
 use Rattle.hs_core_words.specs.Joining.{begin_joining, follow_lead, joining_peers}
 use Rattle.hs_core_words.specs.Looking.{catalogue_of, front_of, group_of, home, lead_of, operation_of, shape_of, status_of}
-use Rattle.hs_core_words.specs.Operating.{begin_line, busy_line, go_on_with, take_step}
+use Rattle.hs_core_words.specs.Operating.{begin_line, busy_line, go_on_with, take_step, what_holds}
 use Rattle.hs_core_words.specs.Records.{HasRecordRoom}
 use Rattle.hs_core_words.specs.Seeing.{pointers_for, view_for}
 use Rattle.hs_core_words.specs.State.{Core}
@@ -42,7 +42,7 @@ use Rattle.hs_model.specs.declared.op.Op.{Op}
 use Rattle.hs_model.specs.Store.{Store}
 use Rattle.hs_ops.specs.declared.step.OpStep.{OpStep}
 use Rattle.hs_ops.specs.declared.step.OpStep.TheVariants as step
-use Rattle.hs_ops.specs.Operations.{bytes_step, go_step, new_operation}
+use Rattle.hs_ops.specs.Operations.{after_step, bytes_step, go_step, new_operation}
 use Rattle.hs_ops.specs.Speaking.{judging_shard}
 use Rattle.hs_ops.specs.Views.{OpView}
 use Rattle.hs_post.specs.Pool.{without}
@@ -163,7 +163,10 @@ module _ (views : ByViews) (steps : Steps) (laws : Entries) (alone : NoLineWaits
       )) h
     where
       stays_open : (line : ℕ) (w : Waiting) (a b : Core) → operation_of line a ≡ Some w → w.shard ≡ g → b ≡ take_step line w step.Wait a → IsOpenAt b g line
-      stays_open line w a b at own is = record { waiting = _; at = ap (λ (c : Core). operation_of line c) is ∙ found_set line a.operations w _ at; judges = own }
+      stays_open line w a b at own is =
+          let y : Waiting = record w { operation = after_step step.Wait w.operation } in
+          let x : Waiting = record y { wait = what_holds y a } in
+          record { waiting = x; at = ap (λ (c : Core). operation_of line c) is ∙ found_set line a.operations w x at; judges = own }
 
   -- one is told bytes: it waits for them, and so its View has taken effect
   lined_hands : (a : Core) (xs : Acts s (Some e) a) (peer number line : ℕ) (bytes : Option (List ℕ)) (w : Waiting) → operation_of line a ≡ Some w → w.wait ≡ wait.Bytes number

@@ -217,7 +217,7 @@ module _ (start : Start) (c : Whole) (r : RunsWithTails start c) where
             views = good.views;
             rests = subst (λ cs. TailRests start.set cs g (front_of g c.core) (tail_behind (front_of g c.core) (reach c q))) (sym folds_are)
                 (subst (λ (x : Setting). TailRests x r.folds g (front_of g c.core) (tail_behind (front_of g c.core) (reach c q))) set_is (good.rests had));
-            lines = lined g q (low_in g low) own counted had;
+            lines = lined g q (low_in g low) own had;
           }
           );
     }

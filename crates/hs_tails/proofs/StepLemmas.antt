@@ -101,18 +101,25 @@ module _ (by : Judging) (start : Store) (old new : Core) (cs : List Folded) (tf 
       ∙ sym (apply_append (shard_in set g) empty_catalogue (numbered s.took) (enumerate_from (front_of g old + 1) took))
       ∙ ap (λ es. catalogue_of (shard_in set g) es) (sym parts)
 
-  -- a list that has it still has behind that what rests
-  pub rests_on : (list : List (Item Entry)) → IsPrefix (numbered t.took) (numbered list) → (IsPrefix (numbered s.took) (numbered list) → RestsIn by.name old cs g (tail_behind (front_of g old) (numbered list)))
-      → RestsIn by.name new tf.gone.after g (tail_behind (front_of g new) (numbered list))
-  rests_on list has before =
+  -- what a list that has it still has behind what took effect before, and behind what has now
+  pub tail_parts : (list : List (Item Entry)) → IsPrefix (numbered t.took) (numbered list)
+      → (rest : List Entry) × ((tail_behind (front_of g old) (numbered list) ≡ tf.gone.took g ++ rest) × (tail_behind (front_of g new) (numbered list) ≡ rest))
+  tail_parts list has =
       let p = prefix_entries t.took list has in
       let all : map what list ≡ map what s.took ++ (took ++ p.0) = p.1 ∙ ap (λ es. es ++ p.0) words ∙ append_assoc (map what s.took) took p.0 in
       let was : tail_behind (front_of g old) (numbered list) ≡ took ++ p.0 =
       tail_is (front_of g old) list ∙ ap (λ es. drop (front_of g old) es) all ∙ ap (λ n. drop n (map what s.took ++ (took ++ p.0))) (a.stands.front ∙ sym (length-map s.took what)) ∙ dropped_first (map what s.took) (took ++ p.0) in
       let now : tail_behind (front_of g new) (numbered list) ≡ p.0 =
       tail_is (front_of g new) list ∙ ap (λ es. drop (front_of g new) es) p.1 ∙ ap (λ n. drop n (map what t.took ++ p.0)) (b.stands.front ∙ sym (length-map t.took what)) ∙ dropped_first (map what t.took) p.0 in
-      subst (λ es. RestsIn by.name new tf.gone.after g es) (sym now)
-      (tf.gone.rests g (took ++ p.0) p.0 (subst (λ es. RestsIn by.name old cs g es) was (before (prefix_trans (numbered s.took) (numbered t.took) (numbered list) (front_prefix s.took t.took stays) has))) refl)
+      (p.0, (was, now))
+
+  -- so it rests
+  pub rests_on : (list : List (Item Entry)) → IsPrefix (numbered t.took) (numbered list) → (IsPrefix (numbered s.took) (numbered list) → RestsIn by.name old cs g (tail_behind (front_of g old) (numbered list)))
+      → RestsIn by.name new tf.gone.after g (tail_behind (front_of g new) (numbered list))
+  rests_on list has before =
+      let p = tail_parts list has in
+      subst (λ es. RestsIn by.name new tf.gone.after g es) (sym p.1.1)
+      (tf.gone.rests g (took ++ p.0) p.0 (subst (λ es. RestsIn by.name old cs g es) p.1.0 (before (prefix_trans (numbered s.took) (numbered t.took) (numbered list) (front_prefix s.took t.took stays) has))) refl)
 
 -- ---- an event
 
@@ -120,17 +127,17 @@ module _ (below : LawsBelow) (start : Start) (c : Whole) (r : RunsWithTails star
   abbrev by : Judging
   by = judging_of start
 
-  in_step : AreInStep c.core r.machines
+  pub in_step : AreInStep c.core r.machines
   in_step = record { shape = r.whole.shape; each = λ g low. (r.whole.each g low).in_step }
 
-  takes : TakesFirst (judging_of start) start.entry c.core (step e at c.core) r.folds
+  pub takes : TakesFirst (judging_of start) start.entry c.core (step e at c.core) r.folds
   takes = takes_first below.views below.steps below.laws (judging_of start) r.names start.entry r.valid c.core e at r.folds r.whole.going (seated c.core r.machines in_step) (known c.core r.machines in_step) r.few
       (r.turn.going r.whole.going) may.may r.stands
 
-  stay : StaysWhole (step_whole e at c) r.machines
+  pub stay : StaysWhole (step_whole e at c) r.machines
   stay = all_stay c e at r.machines r.whole on
 
-  shape_then : shape_of (step e at c.core) ≡ start.set.shape
+  pub shape_then : shape_of (step e at c.core) ≡ start.set.shape
   shape_then = shape_after e at c.core on ∙ r.shape
 
   room : HasRecordRoom (step e at c.core)
@@ -141,10 +148,10 @@ module _ (below : LawsBelow) (start : Start) (c : Whole) (r : RunsWithTails star
       ap (λ (l : Limits). record { name = start.set.name; limits = l; shape = shape_of (step e at c.core) }) takes.gone.stands.limits
       ∙ ap (λ (s : Shape). record { name = start.set.name; limits = start.set.limits; shape = s }) shape_then
 
-  low_before : (g : ℕ) → g < start.set.shape.shards → g < (shape_of c.core).shards
+  pub low_before : (g : ℕ) → g < start.set.shape.shards → g < (shape_of c.core).shards
   low_before g low = subst (λ (s : Shape). g < s.shards) (sym r.shape) low
 
-  low_then : (g : ℕ) → g < start.set.shape.shards → g < (shape_of (step e at c.core)).shards
+  pub low_then : (g : ℕ) → g < start.set.shape.shards → g < (shape_of (step e at c.core)).shards
   low_then g low = subst (λ (s : Shape). g < s.shards) (sym shape_then) low
 
   module _ (g : ℕ) (low : g < start.set.shape.shards) where
@@ -154,13 +161,13 @@ module _ (below : LawsBelow) (start : Start) (c : Whole) (r : RunsWithTails star
     abbrev t : Copies Entry
     t = stay.machines g
 
-    k : IsShardInStep g c (r.machines g)
+    pub k : IsShardInStep g c (r.machines g)
     k = r.whole.each g (low_before g low)
 
-    kt : IsShardInStep g (step_whole e at c) (stay.machines g)
+    pub kt : IsShardInStep g (step_whole e at c) (stay.machines g)
     kt = stay.keeps.each g (low_then g low)
 
-    stood : IsFront (stay.machines g).took (r.machines g).log
+    pub stood : IsFront (stay.machines g).took (r.machines g).log
     stood = stay.stood g (low_then g low)
 
     settled_then : catalogue_at takes.gone.after g ≡ catalogue_of (shard_in start.set g) (took_in stay.machines g)
@@ -169,7 +176,7 @@ module _ (below : LawsBelow) (start : Start) (c : Whole) (r : RunsWithTails star
         (ap (λ (x : Setting). shard_in x g) set_then) (r.settled g low)
 
     module _ (q : ℕ) (own : IsOf (shape_of (step e at c.core)) g q) where
-      own_before : IsOf (shape_of c.core) g q
+      pub own_before : IsOf (shape_of c.core) g q
       own_before = subst (λ (x : Shape). IsOf x g q) (shape_after e at c.core on) own
 
       old : HasGoodTail start c r.machines r.folds g q

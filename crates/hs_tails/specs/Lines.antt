@@ -33,7 +33,7 @@ IsUnderWay stage.Logged = Unit {0}
 -- each operation has taken its first step; and where a shard's View has not taken effect, each that it judges waits for an entry, or for that View
 pub record AreParked (core : Core) : Type 0 where
   pub begun : (line : ℕ) (w : Waiting) → operation_of line core ≡ Some w → IsUnderWay w.operation.stage
-  pub waits : (shard line : ℕ) (w : Waiting) → is_viewed shard core ≡ false → operation_of line core ≡ Some w → w.shard ≡ shard → WaitsToLog w.wait
+  pub waits : (shard line : ℕ) (w : Waiting) → shard < (shape_of core).shards → is_viewed shard core ≡ false → operation_of line core ≡ Some w → w.shard ≡ shard → WaitsToLog w.wait
 
 -- where the core has it that a shard's View has taken effect, its machine has an entry of the current view that did
 abbrev pub AreReached : Core → (ℕ → Copies Entry) → Type 0

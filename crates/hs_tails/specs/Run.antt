@@ -26,6 +26,7 @@ use Rattle.hs_standing.specs.Start.{Start}
 use Rattle.hs_told.specs.InTurn.{IsInTurn}
 use Rattle.hs_whole_copies.specs.Whole.{IsWholeInStep}
 use Rattle.hs_tails.specs.Chosen.{tail_behind}
+use Rattle.hs_tails.specs.Lines.{AreParked, AreReached}
 use Rattle.hs_tails.specs.Tails.{AreAscending, HasOpenLines, RestsIn}
 
 -- ---- what disks may have
@@ -59,11 +60,20 @@ pub record RunsWithTails (start : Start) (c : Whole) : Type 0 where
 
 -- ---- where it stops
 
--- each line that asked for an entry that a disk which counts may have behind all that took effect is open, and asked for one
+-- each line that asked for an entry that a disk may have behind all that took effect is open, and asked for one
 abbrev pub HaveOpenLines : Whole → (ℕ → Copies Entry) → Type 0
 HaveOpenLines c machines =
-    (shard peer : ℕ) → shard < (shape_of c.core).shards → IsOf (shape_of c.core) shard peer → counts c peer ≡ true → IsPrefix (took_in machines shard) (reach c peer)
-    → HasOpenLines c.core shard (tail_behind (front_of shard c.core) (reach c peer))
+    (shard peer : ℕ) → shard < (shape_of c.core).shards → IsOf (shape_of c.core) shard peer → IsPrefix (took_in machines shard) (reach c peer) → HasOpenLines c.core shard (tail_behind (front_of shard c.core) (reach c peer))
+
+-- so it is, and why it stays so: operations of a shard whose View has not taken effect go on by their entry or by that View alone; where it has, an entry of the view took effect
+pub record KeepsLinesOpen (c : Whole) (machines : ℕ → Copies Entry) : Type 0 where
+  pub parked : AreParked c.core
+  pub reached : AreReached c.core machines
+  pub lines : HaveOpenLines c machines
+
+pub record RunsWithOpenTails (start : Start) (c : Whole) : Type 0 where
+  pub runs : RunsWithTails start c
+  pub keeps : KeepsLinesOpen c runs.machines
 
 -- ---- the list of greatest rank
 
