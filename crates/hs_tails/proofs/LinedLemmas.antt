@@ -43,24 +43,29 @@ view_at g a = (group_of g a).view
 
 -- ---- lists
 
-one_dropped : (n : ℕ) (t ws : List Entry) (entry : Entry) → take (n + 1) t ≡ take (n + 1) ws → slice_get ws n ≡ Some entry → (take n t ≡ take n ws) × (drop n t ≡ entry ∷ drop (n + 1) t)
-one_dropped zero [] [] entry same at = absurd (cc at)
-one_dropped zero [] (w ∷ ws) entry same at = absurd (cc same)
-one_dropped zero (x ∷ t) [] entry same at = absurd (cc at)
-one_dropped zero (x ∷ t) (w ∷ ws) entry same at = (refl, (let is : x ≡ entry = cc (same, at) in ap (λ y. y ∷ t) is))
-one_dropped (suc n) [] [] entry same at = absurd (cc at)
-one_dropped (suc n) [] (w ∷ ws) entry same at = absurd (cc same)
-one_dropped (suc n) (x ∷ t) [] entry same at = absurd (cc at)
-one_dropped (suc n) (x ∷ t) (w ∷ ws) entry same at =
-    let first : x ≡ w = heads x w _ _ same in
-    let rest = one_dropped n t ws entry (tails x w _ _ same) at in
-    ((λ i. first i ∷ rest.0 i), rest.1)
-  where
-    heads : (x w : Entry) (t ws : List Entry) → x ∷ t ≡ w ∷ ws → x ≡ w
-    heads x w t ws e = cc e
+heads : (x w : Entry) (t ws : List Entry) → x ∷ t ≡ w ∷ ws → x ≡ w
+heads x w t ws e = cc e
 
-    tails : (x w : Entry) (t ws : List Entry) → x ∷ t ≡ w ∷ ws → t ≡ ws
-    tails x w t ws e = cc e
+tails : (x w : Entry) (t ws : List Entry) → x ∷ t ≡ w ∷ ws → t ≡ ws
+tails x w t ws e = cc e
+
+some_entry : (x w : Entry) → Some x ≡ Some w → x ≡ w
+some_entry x w e = cc e
+
+no_entry : (w : Entry) → None ≡ Some w → ⊥
+no_entry w e = cc e
+
+not_empty : (w : Entry) (ws : List Entry) → [] ≡ w ∷ ws → ⊥
+not_empty w ws e = cc e
+
+one_dropped : (n : ℕ) (t ws : List Entry) (entry : Entry) → take (suc n) t ≡ take (suc n) ws → slice_get ws n ≡ Some entry → (take n t ≡ take n ws) × (drop n t ≡ entry ∷ drop (suc n) t)
+one_dropped n t [] entry same at = absurd (no_entry entry at)
+one_dropped n [] (w ∷ ws) entry same at = absurd (not_empty w (take n ws) same)
+one_dropped zero (x ∷ t) (w ∷ ws) entry same at = (refl, ap (λ y. y ∷ t) (heads x w (take 0 t) (take 0 ws) same ∙ some_entry w entry at))
+one_dropped (suc n) (x ∷ t) (w ∷ ws) entry same at =
+    let first : x ≡ w = heads x w (take (suc n) t) (take (suc n) ws) same in
+    let rest = one_dropped n t ws entry (tails x w (take (suc n) t) (take (suc n) ws) same) at in
+    ((λ i. first i ∷ rest.0 i), rest.1)
 
 -- ---- Views
 
@@ -241,7 +246,7 @@ module _ (g : ℕ) (s : Core) (Tail : List Entry → Type 0) where
       ];
     }
       where
-        more : since b ≡ since a + 1
+        more : since b ≡ suc (since a)
         more = omega (arith, front, up)
 
         reached_told : Reached a → Reached b
@@ -252,7 +257,7 @@ module _ (g : ℕ) (s : Core) (Tail : List Entry → Type 0) where
         opened_told all t of begins =
             let n = more in
             let parts = one_dropped (since a) t (group_of g s).waiting entry (ap (λ m. take m t) (sym n) ∙ begins ∙ ap (λ m. take m (group_of g s).waiting) n) first in
-            let was : HasOpenLines a g (entry ∷ drop (since a + 1) t) = subst (λ es. HasOpenLines a g es) parts.1 (all t of parts.0) in
+            let was : HasOpenLines a g (entry ∷ drop (suc (since a)) t) = subst (λ es. HasOpenLines a g es) parts.1 (all t of parts.0) in
             subst (λ m. HasOpenLines b g (drop m t)) (sym n) (record {
               asked = λ at line x there asks. open_told line (λ own. (let wrong : 0 ≡ suc at = was.once 0 (suc at) line entry x refl there own asks in absurd (omega (arith, wrong)))) (was.asked (suc at) line x there asks);
               once = λ at other line one x p q asks too. (let both : suc at ≡ suc other = was.once (suc at) (suc other) line one x p q asks too in omega (arith, both));
@@ -276,7 +281,7 @@ module _ (g : ℕ) (s : Core) (Tail : List Entry → Type 0) where
       here is (inl yes) =
           let f = first is in
           let v : view ≡ view_at g c = current ∙ ap (λ k. view_at k a) (sym is) ∙ sym (same.views g) in
-          record { begun = h.begun; state = inl (ap (λ k. is_viewed k c) is ∙ yes, inr (since a, ((let n = f.0 in omega (arith, n)), f.1 ∙ ap (λ n. Some (kind.View n)) v))) }
+          record { begun = h.begun; state = inl (ap (λ k. is_viewed k c) is ∙ yes, inr (since a, ((let n : since c ≡ since a + 1 = f.0 in omega (arith, n)), f.1 ∙ ap (λ n. Some (kind.View n)) v))) }
       here is (inr no) = record { begun = h.begun; state = elsewhere (ap (λ k. is_viewed k c) is ∙ no ∙ ap (λ k. is_viewed k b) (sym is)) h.state }
 
   -- ---- a view begins

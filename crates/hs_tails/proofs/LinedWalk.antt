@@ -95,14 +95,14 @@ module _ (views : ByViews) (steps : Steps) (laws : Entries) (alone : NoLineWaits
   orderly_at a xs = ((along a xs).1.gone.stands).orderly
 
   up_at : (a : Core) → Acts s (Some e) a → front_of g s ≤ front_of g a
-  up_at a xs = let fronts = (along a xs).1.gone.fronts g in omega (arith, fronts)
+  up_at a xs = let fronts : front_of g a ≡ front_of g s + length ((along a xs).0 g) = (along a xs).1.gone.fronts g in omega (arith, fronts)
 
   -- what takes effect next stood there as the event had begun
   stood_at : (a : Core) (xs : Acts s (Some e) a) (number : ℕ) (entry : Entry) → committed (group_of g a) ≡ Some (number, entry) → slice_get (group_of g s).waiting (since a) ≡ Some entry
   stood_at a xs number entry next =
       let r = along a xs in
       let listed = r.1.listed g in
-      let fronts = r.1.gone.fronts g in
+      let fronts : front_of g a ≡ front_of g s + length (r.0 g) = r.1.gone.fronts g in
       let n = one_left (commit_front (group_of g a)) (front_of g a) (committed_known (group_of g a) (number, entry) next) in
       let waits : (group_of g a).waiting ≡ entry ∷ drop 1 (group_of g a).waiting = first_is (group_of g a).waiting entry (committed_first (group_of g a) number entry next).first in
       let some : take (commit_front (group_of g a) - front_of g a) (group_of g a).waiting ≡ entry ∷ take n.0 (drop 1 (group_of g a).waiting) =
@@ -276,11 +276,14 @@ module _ (views : ByViews) (steps : Steps) (laws : Entries) (alone : NoLineWaits
       waiting =
           ap (λ (x : Group). x.waiting) (ap (λ (gs : List Group). slice_index_or gs g (new_group (shape_of a) g 0 0 [])) k.lists ∙ ap (λ (m : Members). slice_index_or s.groups g (new_group m.shape g 0 0 [])) k.members)
 
+      none_left : since (leave peer a) ≡ 0
+      none_left = let same : front_of g (leave peer a) ≡ front_of g s = front in omega (arith, same)
+
       left : Lined (leave peer a)
       left = lined_same g s Tail a (leave peer a) (record { viewed = refl; views = λ j. refl }) refl refl h
 
       viewed : (b : Bool) → Lined (change_if b (change_view (home peer a)) (leave peer a))
-      viewed true = lined_change (home peer a) (leave peer a) (omega (arith, front)) (λ t of. open_same a (leave peer a) refl t (tails_open a xs front waiting h t of)) left
+      viewed true = lined_change (home peer a) (leave peer a) none_left (λ t of. open_same a (leave peer a) refl t (tails_open a xs front waiting h t of)) left
       viewed false = left
 
       again : (b : Bool) {x : Core} → Lined x → Lined (change_if b (λ core. each (joining_peers (home peer a) core) begin_joining core) x)
@@ -293,8 +296,9 @@ module _ (views : ByViews) (steps : Steps) (laws : Entries) (alone : NoLineWaits
   lined_joined a xs peer k h =
       let good : Core = set_rejoin peer None (set_status peer Good a) in
       let viewed : Core = change_view (home peer a) good in
+      let none_good : since good ≡ 0 = (let same : front_of g good ≡ front_of g s = front in omega (arith, same)) in
       let h_good : Lined good = lined_same g s Tail a good (record { viewed = refl; views = λ j. refl }) refl refl h in
-      let h_viewed : Lined viewed = lined_change (home peer a) good (omega (arith, front)) (λ t of. open_same a good refl t (tails_open a xs front (waiting k.behind) h t of)) h_good in
+      let h_viewed : Lined viewed = lined_change (home peer a) good none_good (λ t of. open_same a good refl t (tails_open a xs front (waiting k.behind) h t of)) h_good in
       lined_same g s Tail viewed (joined peer a) (same_follow (home peer a) viewed) ((lists_follow (home peer a) viewed).front g) (ap (λ (y : Kept). y.operations) (kept_follow (home peer a) viewed)) h_viewed
     where
       front : front_of g a ≡ front_of g s

@@ -5,13 +5,15 @@ use Rattle.std.specs.Map.{lookup}
 use Rattle.std.specs.Option.{option_map_or}
 use Rattle.std.specs.Ordering.{nat_cmp}
 use Rattle.std.specs.Prelude.{if◌then◌else◌}
+use Rattle.hs_anatomy.proofs.AsideLemmas.{kept_propose}
 use Rattle.hs_anatomy.proofs.LookLemmas.{found_set, gone, number_exact, remove_other, set_other}
+use Rattle.hs_anatomy.specs.Kept.{Kept}
 use Rattle.hs_anatomy.specs.Once.{AreOnce}
 use Rattle.hs_awaiting.specs.declared.wait.Wait.{Wait}
 use Rattle.hs_awaiting.specs.declared.wait.Wait.TheVariants as wait
 use Rattle.hs_awaiting.specs.declared.waiting.Waiting.{Waiting}
 use Rattle.hs_awaiting.specs.Words.{change_with}
-use Rattle.hs_core_words.specs.Changing.{add_entry_tasks, put_operation}
+use Rattle.hs_core_words.specs.Changing.{put_operation}
 use Rattle.hs_core_words.specs.Looking.{group_of, lead_of, operation_of, shape_of}
 use Rattle.hs_core_words.specs.Operating.{add_read, carry_out, propose_entry, take_step, wait_for, what_holds}
 use Rattle.hs_core_words.specs.State.{Core}
@@ -66,18 +68,14 @@ effect_wants v did operation e = answer_or (effect_reply v did operation.op) (go
 -- ---- what is done of a step
 
 -- an entry that is proposed touches no operation
-proposed_operations : (shard : ℕ) (entry : Entry) (c : Core) → (propose_entry shard entry c).operations ≡ c.operations
-proposed_operations shard entry c = by_lead (lead_of shard _)
-  where
-    by_lead : (o : Option ℕ) {x : Core} {n : ℕ} → (change_with o (λ peer. add_entry_tasks peer n entry) x).operations ≡ x.operations
-    by_lead None = refl
-    by_lead (Some l) = refl
+pub proposed_operations : (shard : ℕ) (entry : Entry) (c : Core) → (propose_entry shard entry c).operations ≡ c.operations
+proposed_operations shard entry c = ap (λ (k : Kept). k.operations) (kept_propose shard entry c)
 
 read_operations : (o : Option ℕ) (number line : ℕ) (c : Core) → (change_with o (add_read number line) c).operations ≡ c.operations
 read_operations None number line c = refl
 read_operations (Some l) number line c = refl
 
-some_waiting : (u w : Waiting) → Some u ≡ Some w → u ≡ w
+pub some_waiting : (u w : Waiting) → Some u ≡ Some w → u ≡ w
 some_waiting u w e = cc e
 
 none_waiting : (w : Waiting) → None ≡ Some w → ⊥

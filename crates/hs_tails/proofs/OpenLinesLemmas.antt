@@ -198,7 +198,7 @@ module _ (below : LawsBelow) (start : Start) (c : Whole) (r : RunsWithTails star
     fronts = tf.gone.fronts g
 
     since_is : front_of g (step e at c.core) - front_of g (begun e at c.core) ≡ length (tf.gone.took g)
-    since_is = let f = fronts in omega (arith, f)
+    since_is = let f = fronts in let was : front_of g (begun e at c.core) ≡ front_of g c.core = refl in omega (arith, f, was)
 
     stood_g : IsFront (machines g).took (r.machines g).log
     stood_g = stood below start c r e at may on g low

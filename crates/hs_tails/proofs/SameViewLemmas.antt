@@ -33,7 +33,9 @@ use Rattle.hs_ops.specs.Speaking.{judging_shard}
 use Rattle.hs_ops.specs.Views.{OpView}
 use Rattle.hs_post.specs.Pool.{without}
 use Rattle.hs_rejoin.specs.Rejoin.{copied, emptied, follow}
-use Rattle.hs_replica.specs.Group.{Group, committed, have, hears, last_number, lead, on_copied, on_emptied, on_have, on_sealed, propose, take_committed, take_entry}
+use Rattle.hs_replica.specs.Group.{Group, committed, have, hears, last_number, lead, on_copied, on_emptied, on_have, on_sealed, proposal, propose, take_committed, take_entry}
+use Rattle.hs_rounds.specs.Rounds.{sent_back}
+use Rattle.hs_shard.specs.Rounds.{messages}
 use Rattle.hs_shard.specs.declared.effect.Effect.{Effect}
 use Rattle.hs_shard.specs.Facts.{Catalogue}
 
@@ -97,11 +99,10 @@ had_view peer view sealed x = go (hears peer view x) refl
 pub same_propose : (shard : ℕ) (entry : Entry) (c : Core) → HasSameViews c (propose_entry shard entry c)
 same_propose shard entry c =
     let told : Core = change_group shard (propose entry) c in
-    both_same c told (propose_entry shard entry c) (same_group shard (propose entry) c (proposed_view entry (group_of shard c))) (go (lead_of shard _))
-  where
-    go : (o : Option ℕ) {x : Core} {n : ℕ} → HasSameViews x (change_with o (λ peer. add_entry_tasks peer n entry) x)
-    go None {x} {n} = same_views x
-    go (Some l) {x} {n} = record { viewed = refl; views = λ g. refl }
+    let posted : Core = post (proposal entry (group_of shard c)) told in
+    both_same c told (propose_entry shard entry c) (same_group shard (propose entry) c (proposed_view entry (group_of shard c)))
+    (both_same told posted (propose_entry shard entry c) (record { viewed = refl; views = λ g. refl })
+    (same_with (lead_of shard c) (λ peer. add_entry_tasks peer (last_number (group_of shard c) + 1) entry) posted (λ peer x. record { viewed = refl; views = λ g. refl })))
 
 pub same_carry : (line : ℕ) (w : Waiting) (taken : OpStep) (c : Core) → HasSameViews c (carry_out line w taken c)
 same_carry line w (step.Answer told) c = record { viewed = refl; views = λ g. refl }
@@ -176,17 +177,17 @@ same_told shard entry c = both_same c (taken shard entry c) (told_at_once shard 
 -- ---- acts beside
 
 pub same_follow : (shard : ℕ) (c : Core) → HasSameViews c (follow_lead shard c)
-same_follow shard c = go (lead_of shard c)
-  where
-    go : (o : Option ℕ) → HasSameViews c (change_with o (λ l core. each (joining_peers shard core) (λ peer. change_rejoin peer (follow l)) core) c)
-    go None = same_views c
-    go (Some l) = same_each (joining_peers shard c) (λ peer. change_rejoin peer (follow l)) c (λ peer x. record { viewed = refl; views = λ g. refl })
+same_follow shard c =
+    same_with (lead_of shard c) (λ lead x. each (joining_peers shard x) (λ peer. change_rejoin peer (follow lead)) x) c
+    (λ lead x. same_each (joining_peers shard x) (λ peer. change_rejoin peer (follow lead)) x (λ peer y. record { viewed = refl; views = λ g. refl }))
 
 pub same_joining : (peers : List ℕ) (c : Core) → HasSameViews c (each peers begin_joining c)
 same_joining peers c = same_each peers begin_joining c (λ peer x. record { viewed = refl; views = λ g. refl })
 
 pub same_round : (back shard : ℕ) (c : Core) → HasSameViews c (send_round back shard c)
-same_round back shard c = same_with _ _ c (λ at x. record { viewed = refl; views = λ g. refl })
+same_round back shard c =
+    let run = (catalogue_of shard c).run in
+    same_with (sent_back back run) (λ sent. post (round_messages shard (messages (catalogue_of shard c).shape.shards sent.0 sent.1 run))) c (λ sent x. record { viewed = refl; views = λ g. refl })
 
 -- none but that a View was reached
 abbrev pub ReachesNone : {s : Core} {e : Option Event} {a b : Core} → Aside s e a b → Type 0
