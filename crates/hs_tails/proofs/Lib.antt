@@ -15,6 +15,7 @@ pub mod KnownLemmas
 pub mod LineLemmas
 pub mod LinedLemmas
 pub mod LinedWalk
+pub mod MomentLemmas
 pub mod MovedLemmas
 pub mod OpenFirstLemmas
 pub mod OpenLinesLemmas

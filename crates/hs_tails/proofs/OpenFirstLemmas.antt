@@ -5,7 +5,9 @@ use Rattle.std.specs.List.{replicate}
 use Rattle.std.specs.Map.{lookup}
 use Rattle.std.specs.Ordering.{nat_cmp}
 use Rattle.std.specs.Prelude.{map, nat_lt, slice_index_or, slice_set}
+use Rattle.hs_anatomy.proofs.AsideLemmas.{kept_propose}
 use Rattle.hs_anatomy.proofs.LookLemmas.{one_or_other}
+use Rattle.hs_anatomy.specs.Kept.{Kept}
 use Rattle.hs_awaiting.specs.declared.waiting.Waiting.{Waiting}
 use Rattle.hs_awaiting.specs.Views.{restarted}
 use Rattle.hs_awaiting.specs.Words.{change_if, each}
@@ -21,6 +23,7 @@ use Rattle.hs_entry.specs.Entries.{IsPrefix}
 use Rattle.hs_entry.specs.declared.entry.Entry.TheVariants as kind
 use Rattle.hs_events.specs.Found.{Found, first_core, opens_with}
 use Rattle.hs_events.specs.Whole.{open_whole, reach}
+use Rattle.hs_fold.specs.Shards.Images.{Stop}
 use Rattle.hs_fold.specs.Shards.Setting.{Numbered}
 use Rattle.hs_journal.specs.declared.entry.Who.TheVariants as who
 use Rattle.hs_limits.specs.declared.limits.Limits.{Limits}
@@ -31,6 +34,7 @@ use Rattle.hs_model.specs.declared.reply.Reply.TheVariants as reply
 use Rattle.hs_replica.specs.Group.{renew, renewal}
 use Rattle.hs_standing.proofs.RunLemmas.{LawsBelow}
 use Rattle.hs_standing.specs.Run.{RunBegins}
+use Rattle.hs_standing.specs.Standing.{AreBegun}
 use Rattle.hs_standing.specs.Start.{Start}
 use Rattle.hs_tails.proofs.BeginLemmas.{first_list, first_shape, first_stands, k, opened, tails_begin}
 use Rattle.hs_tails.proofs.LinedLemmas.{cleared_at, set_elsewhere}
@@ -42,9 +46,10 @@ use Rattle.hs_tails.specs.Lines.{IsUnderWay, WaitsToLog, is_viewed}
 use Rattle.hs_tails.specs.Run.{KeepsLinesOpen, RunsWithOpenTails, took_in}
 use Rattle.hs_tails.specs.Tails.{HasOpenLines}
 
--- no operation is there, and no View has taken effect
+-- no operation is there, no View has taken effect, and no line has come
 record IsIdleCore (c : Core) : Type 0 where
   pub idle : c.operations ≡ []
+  pub line : c.progress.event_line ≡ 0
   pub none : (g : ℕ) → is_viewed g c ≡ false
 
 none_viewed : (n g : ℕ) → slice_index_or (replicate n false) g false ≡ false
@@ -58,6 +63,7 @@ idle_view shard c h =
     let posted : Core = post (renewal (group_of shard (restart shard cut))) (restart shard cut) in
     record {
       idle = proposed_operations shard (kind.View (view_of shard c.members)) posted ∙ ap (λ (es : List (ℕ × Waiting)). map (λ (e : ℕ × Waiting). (e.0, restarted shard _ e.1)) es) h.idle;
+      line = ap (λ (x : Kept). x.event_line) (kept_propose shard (kind.View (view_of shard c.members)) posted) ∙ h.line;
       none = λ g. ap (λ vs. slice_index_or vs g false) (same_propose shard (kind.View (view_of shard c.members)) posted).viewed ∙ elim (one_or_other g shard) [
         | inl is ↦ ap (λ j. slice_index_or (slice_set c.progress.viewed shard false) j false) is ∙ cleared_at c.progress.viewed shard
         | inr apart ↦ set_elsewhere c.progress.viewed shard g false apart ∙ h.none g
@@ -76,20 +82,26 @@ idle_change : (shard : ℕ) (c : Core) → IsIdleCore c → IsIdleCore (change_v
 idle_change shard c h = idle_if (has_good shard c.members) (begin_view shard) c (λ x i. idle_view shard x i) h
 
 idle_down : (peer : ℕ) (c : Core) → IsIdleCore c → IsIdleCore (note_if_down peer c)
-idle_down peer c h = idle_if (not (is_good_status (status_of peer c))) (note who.Store deed.Nothing (reply.Down peer 0)) c (λ x i. record { idle = i.idle; none = i.none }) h
+idle_down peer c h = idle_if (not (is_good_status (status_of peer c))) (note who.Store deed.Nothing (reply.Down peer 0)) c (λ x i. record { idle = i.idle; line = i.line; none = i.none }) h
 
 idle_end : (c : Core) → IsIdleCore c → IsIdleCore (end_event c)
 idle_end c h = go (nat_lt c.limits.ops (length c.journal + length c.entries))
   where
     go : (t : Bool) → IsIdleCore (cond t (refuse_entries c) (keep_entries c))
-    go true = record { idle = h.idle; none = h.none }
-    go false = record { idle = h.idle; none = h.none }
+    go true = record { idle = h.idle; line = h.line; none = h.none }
+    go false = record { idle = h.idle; line = h.line; none = h.none }
 
 idle_opens : (shape : Shape) (limits : Limits) (taken : Taken) (moment : ℕ) → IsIdleCore (open_core shape limits taken moment)
 idle_opens shape limits taken moment =
     let a : Core = new_core shape limits taken moment in
-    let viewed : IsIdleCore (begin_views a) = idle_each (shards_of a) change_view a idle_change (record { idle = refl; none = λ g. none_viewed shape.shards g }) in
+    let viewed : IsIdleCore (begin_views a) = idle_each (shards_of a) change_view a idle_change (record { idle = refl; line = refl; none = λ g. none_viewed shape.shards g }) in
     idle_end (note_down (begin_views a)) (idle_each (all_peers (shape_of (begin_views a))) note_if_down (begin_views a) idle_down viewed)
+
+-- so no line was begun
+pub first_begun : (start : Start) (stop : Stop) (found : Found) → AreBegun start stop (first_core start.set found)
+first_begun start stop found line some low client =
+    let none = (idle_opens start.set.shape start.set.limits (opens_with start.set found) found.opened).line in
+    absurd (omega (arith, some, low, none))
 
 none_there : (w : Waiting) (o : Option Waiting) → o ≡ None → o ≡ Some w → ⊥
 none_there w o none some = let wrong : None ≡ Some w = sym none ∙ some in cc wrong
