@@ -278,11 +278,11 @@ module _ (g : ℕ) (s : Core) (Tail : List Entry → Type 0) where
       elsewhere e (inr k) = inr (e ∙ k.0, (k.1.0, λ t of begins. (let was = k.1.1 t of begins in record { asked = λ at line x there asks. (let o = was.asked at line x there asks in record { waiting = o.waiting; at = o.at; judges = o.judges }); once = was.once })))
 
       here : g ≡ shard → (is_viewed shard c ≡ true) ⊎ (is_viewed shard c ≡ is_viewed shard b) → IsLined c
-      here is (inl yes) =
+      here is (inl now) =
           let f = first is in
           let v : view ≡ view_at g c = current ∙ ap (λ k. view_at k a) (sym is) ∙ sym (same.views g) in
-          record { begun = h.begun; state = inl (ap (λ k. is_viewed k c) is ∙ yes, inr (since a, ((let n : since c ≡ since a + 1 = f.0 in omega (arith, n)), f.1 ∙ ap (λ n. Some (kind.View n)) v))) }
-      here is (inr no) = record { begun = h.begun; state = elsewhere (ap (λ k. is_viewed k c) is ∙ no ∙ ap (λ k. is_viewed k b) (sym is)) h.state }
+          record { begun = h.begun; state = inl (ap (λ k. is_viewed k c) is ∙ now, inr (since a, ((let n : since c ≡ since a + 1 = f.0 in omega (arith, n)), f.1 ∙ ap (λ n. Some (kind.View n)) v))) }
+      here is (inr same_view) = record { begun = h.begun; state = elsewhere (ap (λ k. is_viewed k c) is ∙ same_view ∙ ap (λ k. is_viewed k b) (sym is)) h.state }
 
   -- ---- a view begins
 

@@ -42,7 +42,7 @@ WantsNone step.Wait = Unit {0}
 
 pub go_waits : (v : OpView) (line : ℕ) (o : Op) → v.viewed ≡ false → go v line o ≡ step.Wait
 unfolding go
-go_waits v line o e = ap (λ b. if b then option_map_or step.Answer (asked_for v line o) (judged_in v o) else step.Wait) e
+go_waits v line o e = ap (λ b. if b then option_map_or step.Answer (judged_in v o) (asked_for v line o) else step.Wait) e
 
 answer_or : (o : Option Reply) (taken : OpStep) → taken ≡ step.Wait → WantsNone (option_map_or step.Answer o taken)
 answer_or None taken is = subst WantsNone (sym is) tt
@@ -93,7 +93,7 @@ module _ (line : ℕ) (w : Waiting) (c : Core) (once : AreOnce c.operations) (wa
     others = λ k apart. ap (λ (es : List (ℕ × Waiting)). lookup (is_at (nat_cmp k)) es) same ∙ set_other nat_cmp number_exact c.operations line k x apart;
     own = λ u there. (
         let is : x ≡ u = some_waiting x u (sym (ap (λ (es : List (ℕ × Waiting)). lookup (is_at (nat_cmp line)) es) same ∙ found_set line c.operations was x at) ∙ there) in
-        subst (λ (y : Waiting). (y.shard ≡ x.shard) × (IsUnderWay y.operation.stage × (logs → WaitsToLog y.wait))) is (refl, under, waits)
+        subst (λ (y : Waiting). (y.shard ≡ x.shard) × (IsUnderWay y.operation.stage × (logs → WaitsToLog y.wait))) is (refl, (under, waits))
         );
   }
 

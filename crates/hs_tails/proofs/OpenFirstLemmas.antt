@@ -1,10 +1,9 @@
 -- As a run begins no operation is there, no View has taken effect, and what disks may have is of the leads' lists.
 use Rattle.std.proofs.Common.{◌≡◌, ◌∙◌, ap, sym, subst, refl, inl, inr, arith, ℕ, zero, suc, ◌+◌, ◌<◌, Bool, true, false, List, [], ◌∷◌, Option, Some, None, cond, length, not}
 use Rattle.std.specs.BTreeMap.{is_at}
-use Rattle.std.specs.List.{replicate}
 use Rattle.std.specs.Map.{lookup}
 use Rattle.std.specs.Ordering.{nat_cmp}
-use Rattle.std.specs.Prelude.{map, nat_lt, slice_index_or, slice_set}
+use Rattle.std.specs.Prelude.{map, nat_lt, replicate, slice_index_or, slice_set}
 use Rattle.hs_anatomy.proofs.AsideLemmas.{kept_propose}
 use Rattle.hs_anatomy.proofs.LookLemmas.{one_or_other}
 use Rattle.hs_anatomy.specs.Kept.{Kept}
@@ -31,7 +30,7 @@ use Rattle.hs_limits.specs.declared.shape.Shape.{Shape}
 use Rattle.hs_members.specs.Members.{all_peers, has_good, is_good_status, view_of}
 use Rattle.hs_model.specs.declared.deed.Deed.TheVariants as deed
 use Rattle.hs_model.specs.declared.reply.Reply.TheVariants as reply
-use Rattle.hs_replica.specs.Group.{renew, renewal}
+use Rattle.hs_replica.specs.Group.{last_number, renew, renewal}
 use Rattle.hs_standing.proofs.RunLemmas.{LawsBelow}
 use Rattle.hs_standing.specs.Run.{RunBegins}
 use Rattle.hs_standing.specs.Standing.{AreBegun}
@@ -62,7 +61,7 @@ idle_view shard c h =
     let cut : Core = change_group shard (renew c.members) (set_viewed shard false c) in
     let posted : Core = post (renewal (group_of shard (restart shard cut))) (restart shard cut) in
     record {
-      idle = proposed_operations shard (kind.View (view_of shard c.members)) posted ∙ ap (λ (es : List (ℕ × Waiting)). map (λ (e : ℕ × Waiting). (e.0, restarted shard _ e.1)) es) h.idle;
+      idle = proposed_operations shard (kind.View (view_of shard c.members)) posted ∙ ap (λ (es : List (ℕ × Waiting)). map (λ (e : ℕ × Waiting). (e.0, restarted shard (last_number (group_of shard cut)) e.1)) es) h.idle;
       line = ap (λ (x : Kept). x.event_line) (kept_propose shard (kind.View (view_of shard c.members)) posted) ∙ h.line;
       none = λ g. ap (λ vs. slice_index_or vs g false) (same_propose shard (kind.View (view_of shard c.members)) posted).viewed ∙ elim (one_or_other g shard) [
         | inl is ↦ ap (λ j. slice_index_or (slice_set c.progress.viewed shard false) j false) is ∙ cleared_at c.progress.viewed shard

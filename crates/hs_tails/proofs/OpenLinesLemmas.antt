@@ -1,7 +1,6 @@
 -- The lines of what disks may have stay open: as a run begins, and behind an event.
 use Rattle.std.proofs.Common.{◌≡◌, ◌⊎◌, ◌∙◌, ap, sym, subst, refl, inl, inr, arith, ℕ, zero, suc, ◌+◌, ◌-◌, ◌<◌, ◌≤◌, Bool, true, false, List, [], ◌∷◌, ◌++◌, Option, Some, None, cond, length, take}
 use Rattle.std.proofs.lemmas.List.{length-map}
-use Rattle.std.specs.List.{replicate}
 use Rattle.std.specs.Prelude.{drop, map, nat_lt, slice_get, slice_index_or, slice_set}
 use Rattle.hs_anatomy.proofs.LookLemmas.{one_or_other}
 use Rattle.hs_anatomy.proofs.StepLemmas.{step_is}
@@ -88,7 +87,7 @@ get_behind [] ys i = let same : 0 + i ≡ i = omega arith in ap (λ n. slice_get
 get_behind (x ∷ xs) ys i = let same : suc (length xs) + i ≡ suc (length xs + i) = omega arith in ap (λ n. slice_get (x ∷ (xs ++ ys)) n) same ∙ get_behind xs ys i
 
 not_both : (b : Bool) → b ≡ true → b ≡ false → ⊥
-not_both b yes no = let wrong : true ≡ false = sym yes ∙ no in cc wrong
+not_both b p q = let wrong : true ≡ false = sym p ∙ q in cc wrong
 
 -- ---- behind an event
 
@@ -114,7 +113,7 @@ module _ (below : LawsBelow) (start : Start) (c : Whole) (r : RunsWithTails star
   stands_s : IsStanding (judging_of start) start.entry (begun e at c.core) r.folds
   stands_s = standing_beside below.views below.steps below.laws (judging_of start) r.names start.entry r.valid c.core r.folds r.stands (begun e at c.core) beside
 
-  Rested : ℕ → List Entry → Type 0
+  abbrev Rested : ℕ → List Entry → Type 0
   Rested g tail = RestsIn start.set.name c.core r.folds g tail
 
   first_along : IsAlong (judging_of start) start.entry Rested (begun e at c.core) r.folds (λ g. []) (begun e at c.core)

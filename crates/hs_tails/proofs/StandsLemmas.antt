@@ -1,5 +1,5 @@
 -- Where a run of any number of copies stands so, what a stop leaves of it may be chosen.
-use Rattle.std.proofs.Common.{◌≡◌, ◌∙◌, ap, sym, subst, refl, arith, ℕ, zero, suc, ◌+◌, ◌<◌, ◌≤◌, true, List, [], ◌++◌, Some, None, append-nil, length, take}
+use Rattle.std.proofs.Common.{◌≡◌, ◌∙◌, ap, sym, subst, refl, arith, ℕ, zero, suc, ◌+◌, ◌<◌, ◌≤◌, true, List, [], ◌∷◌, ◌++◌, Some, None, append-nil, length, take}
 use Rattle.std.proofs.lemmas.List.{ext_get_or, length-map}
 use Rattle.std.proofs.lemmas.List.Elements.{All-from_recursion, recursion_from_All}
 use Rattle.std.proofs.lemmas.List.FromFn.{length-enumerate_from}
@@ -26,14 +26,13 @@ use Rattle.hs_entry.specs.declared.entry.Entry.{Entry}
 use Rattle.hs_entry.specs.Entries.{IsPrefix}
 use Rattle.hs_events.specs.Whole.{Whole, counts, reach}
 use Rattle.hs_fold.proofs.PrefixLemmas.{last-length}
-use Rattle.hs_fold.proofs.Shards.DeedLemmas.{length-catalogues}
 use Rattle.hs_fold.specs.Lawful.{Deed, list_at}
 use Rattle.hs_fold.specs.Prefix.{IsNumbered, last_of}
 use Rattle.hs_fold.specs.Runs.Catalogue.{catalogue_of}
 use Rattle.hs_fold.specs.Runs.Facts.{Catalogue as Folded, empty_catalogue}
 use Rattle.hs_fold.specs.Runs.Fits.{catalogue_at}
 use Rattle.hs_fold.specs.Runs.History.{no_entries}
-use Rattle.hs_fold.specs.Runs.Opened.{store_of}
+use Rattle.hs_fold.specs.Runs.Opened.{catalogues, store_of}
 use Rattle.hs_fold.specs.Shards.Images.{Stop}
 use Rattle.hs_fold.specs.Shards.Setting.{Numbered, Setting, shard_in}
 use Rattle.hs_journal.specs.declared.entry.JournalEntry.{JournalEntry}
@@ -64,6 +63,10 @@ use Rattle.hs_tails.specs.Tails.{RestsIn, TailRests}
 settled_long : (lists : Lists) (k n : ℕ) → length (settled_from lists k n) ≡ n
 settled_long lists k zero = refl
 settled_long lists k (suc n) = ap (λ m. suc m) (settled_long lists (k + 1) n)
+
+catalogues_long : (set : Setting) (k : ℕ) (lists : List Numbered) → length (catalogues set k lists) ≡ length lists
+catalogues_long set k [] = refl
+catalogues_long set k (list ∷ lists) = ap (λ m. suc m) (catalogues_long set (k + 1) lists)
 
 -- the store of some folds, without sessions
 without_sessions : (cs : List Folded) (core : Core) → reborn (store_with cs core.sessions) ≡ store_of cs
@@ -144,7 +147,7 @@ module _ (start : Start) (c : Whole) (r : RunsWithTails start c) where
       (λ g low. fold_is g (let n = long in omega (arith, low, n)))
     where
       long : length (settled_catalogues start.set (lead_lists c)) ≡ start.set.shape.shards
-      long = length-catalogues start.set 0 (settled start.set (lead_lists c)) ∙ settled_long (lead_lists c) 0 start.set.shape.shards
+      long = catalogues_long start.set 0 (settled start.set (lead_lists c)) ∙ settled_long (lead_lists c) 0 start.set.shape.shards
 
       folds_long : length r.folds ≡ start.set.shape.shards
       folds_long = r.stands.lawful.folded.shards ∙ ap (λ (x : Shape). x.shards) r.shape

@@ -1,5 +1,5 @@
 -- A run over sound lists, of any number of copies, between two events, with what its disks may have: each list that a stop may leave to be chosen rests.
-use Rattle.std.specs.Prelude.{◌≡◌, ◌⊎◌, ℕ, ◌<◌, ◌≤◌, true, List, [], All, AllPairs, length}
+use Rattle.std.specs.Prelude.{◌≡◌, ◌⊎◌, ℕ, ◌<◌, ◌≤◌, false, true, List, [], All, AllPairs, length}
 use Rattle.hs_copies.specs.Machine.{Copies}
 use Rattle.hs_core_copies.specs.InStep.{IsOf}
 use Rattle.hs_core_copies.specs.Lists.{numbered}

@@ -1,20 +1,21 @@
 //! A run of any number of copies, with what its disks may have.
-ghost use Rattle.std.specs.Prelude.{◌≡◌, ℕ, ◌<◌, None};
+ghost use Rattle.std.specs.Prelude.{◌≡◌, ℕ, ◌<◌, Contains, None};
 ghost use Rattle.hs_core_words.specs.Records.{HasRecordRoom};
-ghost use Rattle.hs_events.specs.Course.{steps};
+ghost use Rattle.hs_events.specs.Course.{happened, items_of, steps};
 ghost use Rattle.hs_events.specs.Due.{Events};
 ghost use Rattle.hs_events.specs.Found.{Found, first_core};
 ghost use Rattle.hs_events.specs.Whole.{Whole, open_whole};
 ghost use Rattle.hs_fold.specs.Shards.Images.{Stop};
 ghost use Rattle.hs_fold.specs.Shards.Setting.{Numbered};
-ghost use Rattle.hs_moments.specs.Machine.{runs};
+ghost use Rattle.hs_model.specs.declared.course.CourseItem.{CourseItem};
+ghost use Rattle.hs_moments.specs.Machine.{runs, state_at};
 ghost use Rattle.hs_moments.specs.WholeMachine.{whole_machine};
 ghost use Rattle.hs_standing.specs.Run.{MayRun, RunBegins};
 ghost use Rattle.hs_standing.specs.Standing.{AllMayKeep, AreBegun};
 ghost use Rattle.hs_standing.specs.Start.{Start};
 ghost use Rattle.hs_tails.specs.Chosen.{MayBeChosen, TailsStand, disks_of, lead_lists};
-ghost use Rattle.hs_tails.specs.Run.{HasGreatestRank, HaveOpenLines, RunsWithTails};
-ghost use Rattle.hs_tails.specs.Stop.{AreGreatest, ListsReopen, fronts_of, greatest_lists};
+ghost use Rattle.hs_tails.specs.Run.{HasGreatestRank, RunsWithOpenTails};
+ghost use Rattle.hs_tails.specs.Stop.{AreGreatest, ListsReopen, MayStopWithTails, fronts_of, greatest_lists, left_at};
 
 use crate::chosen_lists_reopen;
 use hs_answered::{
@@ -33,15 +34,23 @@ use hs_told::answers_stay_in_order;
 /// A run over sound lists, of any number of copies, whose core goes on behind its opening and has few root
 /// records, runs with its tails (`opens`), and so it does behind events that may come, while its core goes on
 /// (`goes_on`): of each list that a disk may have, and that has all that took effect, what it has behind that
-/// rests on what is there, whichever peers fail and join.
+/// rests on what is there, and its lines are open, whichever peers fail and join. At each moment of such
+/// events, while its core goes on, it runs so, and its client's lines were begun below that (`moments`).
 pub fn a_run_goes_on_with_its_tails()
     ensures opens { (start : Start) (found : Found) → RunBegins start found
         → (first_core start.set found).ended ≡ None → HasRecordRoom (first_core start.set found) →
-        RunsWithTails start (open_whole start.set found) }
+        RunsWithOpenTails start (open_whole start.set found) }
     ensures goes_on { (start : Start) (c : Whole) (events : Events)
-        → RunsWithTails start c → AllMayKeep start (MayRun start) c.core events
+        → RunsWithOpenTails start c → AllMayKeep start (MayRun start) c.core events
         → (steps c.core events).ended ≡ None →
-        RunsWithTails start (runs whole_machine c events) }
+        RunsWithOpenTails start (runs whole_machine c events) }
+    ensures moments { (start : Start) (stop : Stop) (c : Whole) (events : Events)
+        → RunsWithOpenTails start c → AreBegun start stop c.core
+        → AllMayKeep start (MayRun start) c.core events
+        → ((i : CourseItem) → Contains (items_of c.core events) i → Contains stop.course i)
+        → (state_at whole_machine c (happened c.core events) stop.moment).core.ended ≡ None →
+        MayStopWithTails start stop
+        (state_at whole_machine c (happened c.core events) stop.moment) }
 {
     a_step_that_answers_is_the_judges();
     an_answer_is_the_judges();
@@ -60,11 +69,10 @@ pub fn a_run_goes_on_with_its_tails()
     catalogues_in_memory_are_folds();
 }
 
-/// Where a run of any number of copies runs with its tails, and the lines of these are open, tails stand: what
-/// took effect of the leads' lists is what its journal tells, and each list that a disk may have is good to choose.
+/// Where a run of any number of copies runs with its tails, tails stand: what took effect of the leads' lists is
+/// what its journal tells, and each list that a disk may have, and that has all that took effect, is good to choose.
 pub fn what_runs_with_its_tails_may_stop()
-    ensures { (start : Start) (stop : Stop) (c : Whole) (run : RunsWithTails start c)
-        → HaveOpenLines c run.machines → AreBegun start stop c.core →
+    ensures { (start : Start) (stop : Stop) (c : Whole) → MayStopWithTails start stop c →
         TailsStand start stop c.core.journal (disks_of c) (lead_lists c) c.core }
 {}
 
@@ -72,18 +80,30 @@ pub fn what_runs_with_its_tails_may_stop()
 /// has sealed, the list of greatest rank may be chosen: it has all that took effect.
 pub fn the_list_of_greatest_rank_may_be_chosen()
     ensures { (start : Start) (c : Whole) (shard : ℕ) (left : ℕ → Numbered) (peer : ℕ)
-        → RunsWithTails start c → shard < start.set.shape.shards → HasGreatestRank c shard left peer →
+        → RunsWithOpenTails start c → shard < start.set.shape.shards
+        → HasGreatestRank c shard left peer →
         MayBeChosen start.set.shape (disks_of c) (lead_lists c) shard (left peer) }
 {}
 
 /// So where such a run stops, and of each shard the list of greatest rank is taken of what the stop leaves of its
-/// disks: together these lists reopen at the store behind what was answered and then what is pending in them, all of it one
-/// legal run; they are sound; what is pending is of lines that are awaited, and of no line twice.
+/// disks: together these lists reopen at the store behind what was answered and then what is pending in them, all of
+/// it one legal run; they are sound; what is pending is of lines that are awaited, and of no line twice (`stops`). So it
+/// is of a run from its opening on, along any events that may come, at each core that goes on (`runs`).
 pub fn the_lists_of_greatest_rank_reopen()
-    ensures { (start : Start) (stop : Stop) (c : Whole) (left : ℕ → Numbered) (peers : ℕ → ℕ)
-        (run : RunsWithTails start c) → HaveOpenLines c run.machines → AreBegun start stop c.core
-        → AreGreatest start c left peers →
+    ensures stops { (start : Start) (stop : Stop) (c : Whole) (left : ℕ → Numbered) (peers : ℕ → ℕ)
+        → MayStopWithTails start stop c → AreGreatest start c left peers →
         ListsReopen start stop c.core.journal (fronts_of c) (greatest_lists start c left peers) }
+    ensures runs { (start : Start) (stop : Stop) (found : Found) (events : Events) (left : ℕ → Numbered)
+        (peers : ℕ → ℕ) → RunBegins start found
+        → (first_core start.set found).ended ≡ None → HasRecordRoom (first_core start.set found)
+        → AllMayKeep start (MayRun start) (first_core start.set found) events
+        → ((i : CourseItem) → Contains (items_of (first_core start.set found) events) i
+        → Contains stop.course i) → (left_at start.set found events stop.moment).core.ended ≡ None
+        → AreGreatest start (left_at start.set found events stop.moment) left peers →
+        ListsReopen start stop (left_at start.set found events stop.moment).core.journal
+        (fronts_of (left_at start.set found events stop.moment))
+        (greatest_lists start (left_at start.set found events stop.moment) left peers) }
 {
+    a_run_goes_on_with_its_tails();
     chosen_lists_reopen();
 }
