@@ -19,8 +19,7 @@ use Rattle.hs_standing.proofs.RunLemmas.{LawsBelow}
 use Rattle.hs_standing.specs.Run.{MayRun}
 use Rattle.hs_standing.specs.Standing.{AllMayKeep, AreBegun, MayKeep}
 use Rattle.hs_standing.specs.Start.{Start}
-use Rattle.hs_tails.proofs.OpenLinesLemmas.{lines_on}
-use Rattle.hs_tails.proofs.StepLemmas.{tails_on}
+use Rattle.hs_tails.proofs.OpenLinesLemmas.{run_on}
 use Rattle.hs_tails.specs.Run.{RunsWithOpenTails}
 use Rattle.hs_tails.specs.Stop.{MayStopWithTails}
 
@@ -41,7 +40,7 @@ module _ (below : LawsBelow) (start : Start) (stop : Stop) where
           → MayStopWithTails start stop (state_at whole_machine (step_whole e.0 e.1 c) (happened (step e.0 e.1 c.core) es) stop.moment)
       by_end later told low None going there =
           let m : MayKeep start (MayRun start) c.core e.0 e.1 = may.0 r.runs.whole.going in
-          later (record { runs = tails_on below start c r.runs e.0 e.1 m going; keeps = lines_on below start c r.runs r.keeps e.0 e.1 m going })
+          later (run_on below start c r.runs r.keeps e.0 e.1 m going)
           (event_begun start stop c.core e.0 e.1 r.runs.whole.going m.comes.begins told low (λ i has. inside i (Contains-append_left (event_items c.core e) (items_of (step e.0 e.1 c.core) es) i has)) begun) there
       by_end later told low (Some f) ended there =
           let same : (state_at whole_machine (step_whole e.0 e.1 c) (happened (step e.0 e.1 c.core) es) stop.moment).core ≡ step e.0 e.1 c.core = ended_stays (step_whole e.0 e.1 c) (until stop.moment (happened (step e.0 e.1 c.core) es)) f ended in

@@ -56,7 +56,7 @@ use Rattle.hs_tails.proofs.LinedWalk.{fine_lined}
 use Rattle.hs_tails.proofs.ReachLemmas.{reach_now}
 use Rattle.hs_tails.proofs.SameViewLemmas.{HasSameViews}
 use Rattle.hs_tails.proofs.StampedLemmas.{reached_by, reached_front, reached_stays}
-use Rattle.hs_tails.proofs.StepLemmas.{in_step, k, kt, low_before, low_then, own_before, shape_then, stay, stays, stood, tail_parts, tails_on, takes, waits_behind, words}
+use Rattle.hs_tails.proofs.StepLemmas.{in_step, k, kt, low_before, low_then, machines_on, own_before, shape_then, stay, stays, stood, tail_parts, tails_on, takes, waits_behind, words}
 use Rattle.hs_tails.proofs.WaitsLemmas.{waits_open}
 use Rattle.hs_tails.specs.Chosen.{tail_behind}
 use Rattle.hs_tails.specs.Lines.{AreParked, AreReached, IsUnderWay, WaitsToLog, is_viewed}
@@ -294,6 +294,13 @@ module _ (below : LawsBelow) (start : Start) (c : Whole) (r : RunsWithTails star
     lines = λ g q low own has. lines_then g (low_in g low) q own has;
   }
 
+  -- so a run with its tails goes on
+  pub run_on : RunsWithOpenTails start (step_whole e at c)
+  run_on = record {
+    runs = tails_on below start c r e at may on;
+    keeps = subst (λ (m : ℕ → Copies Entry). KeepsLinesOpen (step_whole e at c) m) (sym (machines_on below start c r e at may on)) lines_on;
+  }
+
 -- ---- events
 
 steps_going : (c : Core) (es : Events) → (steps c es).ended ≡ None → c.ended ≡ None
@@ -305,4 +312,4 @@ all_lines_on below start c r [] may on = r
 all_lines_on below start c r (e ∷ es) may on =
     let going : (step e.0 e.1 c.core).ended ≡ None = steps_going (step e.0 e.1 c.core) es on in
     let first : MayKeep start (MayRun start) c.core e.0 e.1 = may.0 r.runs.whole.going in
-    all_lines_on below start (step_whole e.0 e.1 c) (record { runs = tails_on below start c r.runs e.0 e.1 first going; keeps = lines_on below start c r.runs r.keeps e.0 e.1 first going }) es may.1 on
+    all_lines_on below start (step_whole e.0 e.1 c) (run_on below start c r.runs r.keeps e.0 e.1 first going) es may.1 on

@@ -221,6 +221,11 @@ module _ (below : LawsBelow) (start : Start) (c : Whole) (r : RunsWithTails star
     tails = λ g q low own. good_then g low q own;
   }
 
+  -- its machines are those with which it stays so
+  pub machines_on : tails_on.machines ≡ stay.machines
+  unfolding tails_on
+  machines_on = refl
+
 -- ---- events
 
 steps_going : (c : Core) (es : Events) → (steps c es).ended ≡ None → c.ended ≡ None
