@@ -1,9 +1,8 @@
 -- A history in which the numbers of each shard ascend goes on with an entry that takes effect next.
-use Rattle.std.proofs.Common.{◌≡◌, ◌∙◌, ap, sym, subst, ℕ, ◌+◌, ◌<◌, ◌≤◌, List, [], ◌∷◌, ◌++◌, arith}
+use Rattle.std.proofs.Common.{◌≡◌, ◌∙◌, ap, sym, subst, ℕ, ◌+◌, ◌≤◌, List, [], ◌∷◌, ◌++◌, arith}
 use Rattle.std.proofs.lemmas.List.Elements.{All-append, All-cons, All-nil, All-weaker, recursion_from_All}
 use Rattle.std.specs.List.{AllByRecursion}
 use Rattle.hs_effects.specs.Lawful.{MayFollow}
-use Rattle.hs_entry.specs.declared.entry.Entry.{Entry}
 use Rattle.hs_fold.proofs.Shards.LawfulLemmas.{each-from, pairs-append, pairs-from, pairs-to}
 use Rattle.hs_fold.specs.Lawful.{Ascends, Deed}
 use Rattle.hs_fold.specs.Runs.Facts.{Catalogue as Folded}

@@ -1,5 +1,5 @@
 -- A run over sound lists, of any number of copies, begins with what its disks may have being good.
-use Rattle.std.proofs.Common.{◌≡◌, ◌⊎◌, ◌∙◌, ap, sym, subst, refl, arith, ℕ, zero, suc, ◌+◌, ◌<◌, ◌≤◌, Bool, true, false, if◌then◌else◌, List, [], ◌++◌, None, Some, length}
+use Rattle.std.proofs.Common.{◌≡◌, ◌∙◌, ap, sym, subst, refl, arith, ℕ, zero, suc, ◌+◌, ◌<◌, ◌≤◌, Bool, true, false, if◌then◌else◌, List, [], ◌++◌, None, length}
 use Rattle.std.proofs.Math.ListN.{get_or-map}
 use Rattle.std.proofs.lemmas.List.{length-map}
 use Rattle.std.proofs.lemmas.List.Elements.{All-from_recursion, recursion_from_All}
@@ -18,7 +18,7 @@ use Rattle.hs_core_words.specs.State.{Core}
 use Rattle.hs_entry.specs.declared.entry.Entry.{Entry}
 use Rattle.hs_events.specs.Found.{Found, first_core, opened_list, opens_with, starts_good}
 use Rattle.hs_events.specs.Sane.{IsFromOne}
-use Rattle.hs_events.specs.Whole.{Whole, grown, open_whole, reach}
+use Rattle.hs_events.specs.Whole.{grown, open_whole, reach}
 use Rattle.hs_fold.proofs.PrefixLemmas.{last-length}
 use Rattle.hs_fold.specs.Lawful.{Deed, list_at}
 use Rattle.hs_fold.specs.Prefix.{IsNumbered, last_of}
@@ -36,7 +36,7 @@ use Rattle.hs_limits.specs.declared.shape.Shape.{Shape}
 use Rattle.hs_members.specs.Members.{Members, status}
 use Rattle.hs_model.specs.Store.{Store}
 use Rattle.hs_standing.proofs.FirstLemmas.{first_held}
-use Rattle.hs_standing.proofs.LegalOpenLemmas.{began_like, folds_valid, standing_new, standing_opens}
+use Rattle.hs_standing.proofs.LegalOpenLemmas.{folds_valid, standing_new, standing_opens}
 use Rattle.hs_standing.proofs.RunLemmas.{LawsBelow}
 use Rattle.hs_standing.proofs.SettleLemmas.{within_as}
 use Rattle.hs_standing.proofs.StandingLemmas.{standing_beside, standing_downed}

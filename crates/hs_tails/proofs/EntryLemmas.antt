@@ -1,8 +1,8 @@
 -- Lists of items, with numbers and as entries.
-use Rattle.std.proofs.Common.{◌≡◌, ◌∙◌, ap, sym, refl, arith, ℕ, zero, suc, ◌+◌, false, List, [], ◌∷◌, ◌++◌, append_assoc, length}
+use Rattle.std.proofs.Common.{◌≡◌, ◌∙◌, ap, sym, refl, ℕ, zero, suc, ◌+◌, false, List, [], ◌∷◌, ◌++◌, append_assoc, length}
 use Rattle.std.proofs.lemmas.List.{map-append}
 use Rattle.std.proofs.lemmas.List.Elements.{All-head, All-tail}
-use Rattle.std.specs.List.{All, enumerate_from}
+use Rattle.std.specs.List.{enumerate_from}
 use Rattle.std.specs.Prelude.{drop, map}
 use Rattle.hs_copies.specs.Lists.{IsFront, Item}
 use Rattle.hs_core_copies.proofs.UnsealedLemmas.{numbered_append}

@@ -1,11 +1,11 @@
 -- The acts of an event, where a shard's View is reached only as it takes effect.
-use Rattle.std.proofs.Common.{◌≡◌, ◌∙◌, sym, ap, subst, ℕ, zero, suc, ◌+◌, ◌-◌, ◌<◌, ◌==◌, Bool, true, false, cond, List, [], ◌∷◌, Option, Some, None, refl, drop, eqb-true, length, not}
+use Rattle.std.proofs.Common.{◌≡◌, ◌∙◌, sym, ap, subst, ℕ, zero, suc, ◌+◌, ◌-◌, ◌<◌, ◌==◌, Bool, true, false, cond, List, [], ◌∷◌, Option, Some, None, refl, drop, eqb-true, length}
 use Rattle.hs_anatomy.proofs.ClassLemmas.{after_is}
 use Rattle.hs_anatomy.proofs.OnceLemmas.{once_acts}
 use Rattle.hs_anatomy.proofs.ReadyLemmas.{AreReady, PassesIdle, ready_on, ready_where, view_idle, wakes_idle}
 use Rattle.hs_anatomy.proofs.StepLemmas.{committed_low, length_set, message_by, unless_by}
 use Rattle.hs_anatomy.specs.Acts.{Act, Acts, AndThen, Asks, Aside, ByCopying, ByDisk, ByEmptying, ByLine, ByNudge, ByRound, Copies, Empties, Enters, Falls, FindsDown, Gets, Goes, Hands, Hears, IsAnswered, IsAside, IsBehind, IsComing, IsFalling, IsFelled, IsLevel, IsNudged, IsUrged, Joins, Loses, NoAct, Opens, Refuses, Repeats, Reports, Resends, Seals, SendsRound, Starts, Takes, TakesEffect, TellsDown, Views, bytes_report, copied_by, emptied_by, fallen, joined, sealed_by, without_job}
-use Rattle.hs_anatomy.specs.Effect.{Class, OfRound, class_of, done_by, goes_class, taken, tells_class, told_at_once}
+use Rattle.hs_anatomy.specs.Effect.{OfRound, class_of, done_by, goes_class, taken, tells_class, told_at_once}
 use Rattle.hs_anatomy.specs.Once.{AreOnce, IsIdle}
 use Rattle.hs_anatomy.specs.Refusing.{refusal_in}
 use Rattle.hs_awaiting.specs.declared.wait.Wait.{Wait}
@@ -48,7 +48,7 @@ use Rattle.hs_post.specs.declared.message.Message.TheVariants as message
 use Rattle.hs_post.specs.Pool.{is_full, message_at, without}
 use Rattle.hs_replica.specs.Group.{commit_front, committed, is_peer, on_have, take_committed, takes}
 use Rattle.hs_shard.specs.declared.effect.Effect.{Effect}
-use Rattle.hs_tails.proofs.SameViewLemmas.{HasSameViews, ReachesNone, both_same, same_aside, same_begins, same_goes, same_propose, same_round, same_told, same_views}
+use Rattle.hs_tails.proofs.SameViewLemmas.{HasSameViews, ReachesNone, both_same, same_aside, same_begins, same_goes, same_propose, same_round, same_told}
 
 -- all acts but that a View is reached, a peer falls or joins, and a first view begins
 abbrev pub IsPlain : {s : Core} {e : Option Event} {a b : Core} → Act s e a b → Type 0

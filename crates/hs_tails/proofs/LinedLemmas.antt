@@ -1,40 +1,29 @@
 -- Along the acts of an event: the lines of a shard's tails stay open while its View has not taken effect, and where it has, an entry of the view took effect.
-use Rattle.std.proofs.Common.{◌≡◌, ◌∙◌, ap, sym, subst, ◌⊎◌, inl, inr, ℕ, zero, suc, ◌+◌, ◌-◌, ◌<◌, ◌≤◌, ◌==◌, ◌&&◌, Bool, true, false, not, List, [], ◌∷◌, ◌++◌, Option, Some, None, refl, arith, length, take, drop}
+use Rattle.std.proofs.Common.{◌≡◌, ◌∙◌, ap, sym, subst, ◌⊎◌, inl, inr, ℕ, zero, suc, ◌+◌, ◌-◌, ◌<◌, ◌≤◌, ◌==◌, ◌&&◌, Bool, true, false, not, List, [], ◌∷◌, Option, Some, None, refl, arith, take, drop}
 use Rattle.std.proofs.lemmas.Bool.{eq-eqb, ne_eqb}
 use Rattle.std.specs.BTreeMap.{is_at}
 use Rattle.std.specs.Map.{lookup}
 use Rattle.std.specs.Option.{option_map}
 use Rattle.std.specs.Ordering.{nat_cmp}
-use Rattle.std.specs.Prelude.{if◌then◌else◌, is_some, slice_get, slice_index_or, slice_set}
+use Rattle.std.specs.Prelude.{if◌then◌else◌, slice_get, slice_index_or, slice_set}
 use Rattle.hs_anatomy.proofs.LookLemmas.{found_map, one_or_other}
-use Rattle.hs_anatomy.specs.Effect.{class_of, done_by, taken, tells_class, told_at_once}
-use Rattle.hs_anatomy.specs.Strokes.{renewed}
 use Rattle.hs_awaiting.specs.declared.wait.Wait.{Wait}
 use Rattle.hs_awaiting.specs.declared.wait.Wait.TheVariants as wait
 use Rattle.hs_awaiting.specs.declared.waiting.Waiting.{Waiting}
 use Rattle.hs_awaiting.specs.Views.{is_within, restarted}
-use Rattle.hs_awaiting.specs.Words.{change_with}
 use Rattle.hs_core_words.specs.Changing.{change_group, post, set_viewed}
-use Rattle.hs_core_words.specs.Effects.{note_enter, note_sweep, tell_operation}
 use Rattle.hs_core_words.specs.Looking.{front_of, group_of, operation_of}
-use Rattle.hs_core_words.specs.Operating.{go_on_with, take_step}
-use Rattle.hs_core_words.specs.Seeing.{view_for}
 use Rattle.hs_core_words.specs.State.{Core}
 use Rattle.hs_core_words.specs.Views.{begin_view, restart, restart_at}
-use Rattle.hs_desk.specs.declared.what.What.{What}
-use Rattle.hs_desk.specs.declared.what.What.TheVariants as what
 use Rattle.hs_effects.proofs.GroupLemmas.{group_changed}
-use Rattle.hs_effects.specs.Logged.{HasAsked, IsOrderly, asked_by}
+use Rattle.hs_effects.specs.Logged.{asked_by}
 use Rattle.hs_entry.specs.declared.entry.Entry.{Entry}
 use Rattle.hs_entry.specs.declared.entry.Entry.TheVariants as kind
-use Rattle.hs_limits.specs.declared.address.Address.{Address}
 use Rattle.hs_ops.specs.declared.operation.Stage.{Stage}
-use Rattle.hs_ops.specs.Operations.{effect_step}
 use Rattle.hs_members.specs.Members.{view_of}
 use Rattle.hs_replica.specs.Group.{Group, last_number, renew, renewal}
-use Rattle.hs_shard.specs.declared.effect.Effect.{Effect}
-use Rattle.hs_tails.proofs.MovedLemmas.{MovesAt, carried, effect_wants, proposed_operations, some_waiting}
-use Rattle.hs_tails.proofs.SameViewLemmas.{HasSameViews, both_same, same_propose}
+use Rattle.hs_tails.proofs.MovedLemmas.{MovesAt, proposed_operations, some_waiting}
+use Rattle.hs_tails.proofs.SameViewLemmas.{HasSameViews, same_propose}
 use Rattle.hs_tails.specs.Lines.{IsUnderWay, WaitsToLog, is_viewed}
 use Rattle.hs_tails.specs.Tails.{HasOpenLines, IsOpenAt}
 

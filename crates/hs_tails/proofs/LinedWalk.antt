@@ -1,5 +1,5 @@
 -- Along an event: lines of tails stay open, operations stay parked, and Views are reached as they take effect.
-use Rattle.std.proofs.Common.{◌≡◌, ◌∙◌, ap, sym, subst, ◌⊎◌, inl, inr, ℕ, zero, suc, ◌+◌, ◌-◌, ◌<◌, ◌≤◌, Bool, true, false, List, [], ◌∷◌, ◌++◌, Option, Some, None, refl, arith, length, slice_index_or, take}
+use Rattle.std.proofs.Common.{◌≡◌, ◌∙◌, ap, sym, subst, inl, inr, ℕ, suc, ◌+◌, ◌-◌, ◌<◌, ◌≤◌, Bool, true, false, List, [], ◌∷◌, ◌++◌, Option, Some, None, refl, arith, length, slice_index_or, take}
 use Rattle.std.specs.BTreeMap.{is_at}
 use Rattle.std.specs.Map.{lookup}
 use Rattle.std.specs.Ordering.{nat_cmp}
@@ -7,20 +7,20 @@ use Rattle.std.specs.Prelude.{drop, slice_get}
 use Rattle.hs_anatomy.proofs.AsideLemmas.{kept_aside, kept_follow, kept_joining, kept_round}
 use Rattle.hs_anatomy.proofs.ListLemmas.{lists_aside, lists_follow, lists_joining}
 use Rattle.hs_anatomy.proofs.LookLemmas.{found_insert, found_set, insert_other, number_exact, once_insert, one_or_other}
-use Rattle.hs_anatomy.specs.Acts.{Act, Acts, Asks, Aside, ByCopying, ByEmptying, Copies, Empties, Enters, Falls, FindsDown, Gets, Goes, Hands, IsAside, IsBehind, IsFalling, IsLevel, Joins, Opens, Refuses, SendsRound, TakesEffect, TellsDown, copied_by, emptied_by, fallen, joined, without_job}
+use Rattle.hs_anatomy.specs.Acts.{Act, Acts, Asks, ByCopying, ByEmptying, Copies, Empties, Enters, Falls, FindsDown, Gets, Goes, Hands, IsAside, IsBehind, IsFalling, IsLevel, Joins, Opens, Refuses, SendsRound, TakesEffect, TellsDown, fallen, joined, without_job}
 use Rattle.hs_anatomy.specs.Effect.{done_by, taken, told_at_once}
-use Rattle.hs_anatomy.specs.Kept.{Kept, kept_of}
+use Rattle.hs_anatomy.specs.Kept.{Kept}
 use Rattle.hs_answered.specs.Telling.{Judging}
 use Rattle.hs_awaiting.specs.declared.wait.Wait.{Wait}
 use Rattle.hs_awaiting.specs.declared.wait.Wait.TheVariants as wait
 use Rattle.hs_awaiting.specs.declared.waiting.Waiting.{Waiting}
 use Rattle.hs_awaiting.specs.Words.{change_if, change_with, each}
 use Rattle.hs_core_words.specs.Asking.{send_round}
-use Rattle.hs_core_words.specs.Changing.{add_operation, change_pool, put_operation, set_rejoin, set_status, set_viewed}
+use Rattle.hs_core_words.specs.Changing.{add_operation, change_pool, set_rejoin, set_status}
 use Rattle.hs_core_words.specs.declared.event.Event.{Event}
 use Rattle.hs_core_words.specs.declared.event.Event.TheVariants as event
 use Rattle.hs_core_words.specs.Failing.{leave}
-use Rattle.hs_core_words.specs.Joining.{begin_joining, follow_lead, joining_peers}
+use Rattle.hs_core_words.specs.Joining.{begin_joining, joining_peers}
 use Rattle.hs_core_words.specs.Looking.{catalogue_of, front_of, group_of, home, lead_of, operation_of, shape_of, status_of}
 use Rattle.hs_core_words.specs.Operating.{begin_line, busy_line, go_on_with, take_step, what_holds}
 use Rattle.hs_core_words.specs.Records.{HasRecordRoom}
@@ -58,12 +58,12 @@ use Rattle.hs_tails.proofs.AlongLemmas.{IsAlong, acts_go_along, falls_front, joi
 use Rattle.hs_tails.proofs.FineLemmas.{Fine, IsPlain, NoneYet, Then, ThenFalls, ThenJoins, ThenView, acts_of}
 use Rattle.hs_tails.proofs.FirstLemmas.{committed_known, first_is}
 use Rattle.hs_tails.proofs.FrontLemmas.{front_open}
-use Rattle.hs_tails.proofs.LinedLemmas.{IsLined, Stands, lined_first, lined_moves, lined_other, lined_same, lined_view, lined_viewed, view_at}
+use Rattle.hs_tails.proofs.LinedLemmas.{IsLined, Stands, lined_first, lined_moves, lined_other, lined_same, lined_view, lined_viewed}
 use Rattle.hs_tails.proofs.MovedLemmas.{MovesAt, WantsNone, begin_wants, carried, proposed_operations, step_waits}
 use Rattle.hs_tails.proofs.SameViewLemmas.{HasSameViews, same_follow, same_joining, same_told}
 use Rattle.hs_tails.proofs.TellingLemmas.{line_judges, tells_line}
 use Rattle.hs_tails.proofs.WaitsLemmas.{waits_open}
-use Rattle.hs_tails.specs.Lines.{IsUnderWay, WaitsToLog, is_viewed}
+use Rattle.hs_tails.specs.Lines.{WaitsToLog, is_viewed}
 use Rattle.hs_tails.specs.Tails.{HasOpenLines, IsOpenAt}
 
 same_waiting : (u w : Waiting) → Some u ≡ Some w → u ≡ w

@@ -1,5 +1,5 @@
 -- What a step of one operation leaves of the operations.
-use Rattle.std.proofs.Common.{◌≡◌, ◌∙◌, ap, sym, subst, refl, ℕ, ◌+◌, Bool, true, false, List, Option, Some, None}
+use Rattle.std.proofs.Common.{◌≡◌, ◌∙◌, ap, sym, subst, refl, ℕ, ◌+◌, false, List, Option, Some, None}
 use Rattle.std.specs.BTreeMap.{is_at}
 use Rattle.std.specs.Map.{lookup}
 use Rattle.std.specs.Option.{option_map_or}
@@ -9,13 +9,12 @@ use Rattle.hs_anatomy.proofs.AsideLemmas.{kept_propose}
 use Rattle.hs_anatomy.proofs.LookLemmas.{found_set, gone, number_exact, remove_other, set_other}
 use Rattle.hs_anatomy.specs.Kept.{Kept}
 use Rattle.hs_anatomy.specs.Once.{AreOnce}
-use Rattle.hs_awaiting.specs.declared.wait.Wait.{Wait}
 use Rattle.hs_awaiting.specs.declared.wait.Wait.TheVariants as wait
 use Rattle.hs_awaiting.specs.declared.waiting.Waiting.{Waiting}
 use Rattle.hs_awaiting.specs.Words.{change_with}
 use Rattle.hs_core_words.specs.Changing.{put_operation}
-use Rattle.hs_core_words.specs.Looking.{group_of, lead_of, operation_of, shape_of}
-use Rattle.hs_core_words.specs.Operating.{add_read, carry_out, propose_entry, take_step, wait_for, what_holds}
+use Rattle.hs_core_words.specs.Looking.{group_of, lead_of, operation_of}
+use Rattle.hs_core_words.specs.Operating.{add_read, propose_entry, take_step, what_holds}
 use Rattle.hs_core_words.specs.State.{Core}
 use Rattle.hs_desk.specs.declared.what.What.{What}
 use Rattle.hs_entry.specs.declared.entry.Entry.{Entry}
@@ -28,7 +27,7 @@ use Rattle.hs_ops.specs.declared.step.OpStep.TheVariants as step
 use Rattle.hs_ops.specs.Going.{asked_for, begin, effect_reply, go, judged_in, on_effect}
 use Rattle.hs_ops.specs.Operations.{Operation, after_step, effect_step, go_from, go_step}
 use Rattle.hs_ops.specs.Views.{OpView}
-use Rattle.hs_replica.specs.Group.{last_number, proposal, propose}
+use Rattle.hs_replica.specs.Group.{last_number}
 use Rattle.hs_tails.specs.Lines.{IsUnderWay, WaitsToLog, is_viewed}
 
 -- ---- steps while a View has not taken effect

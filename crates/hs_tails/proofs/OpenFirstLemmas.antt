@@ -18,7 +18,6 @@ use Rattle.hs_core_words.specs.Records.{HasRecordRoom}
 use Rattle.hs_core_words.specs.State.{Core}
 use Rattle.hs_core_words.specs.Step.{end_event, keep_entries, refuse_entries}
 use Rattle.hs_core_words.specs.Views.{begin_view, change_view, restart}
-use Rattle.hs_entry.specs.Entries.{IsPrefix}
 use Rattle.hs_entry.specs.declared.entry.Entry.TheVariants as kind
 use Rattle.hs_events.specs.Found.{Found, first_core, opens_with}
 use Rattle.hs_events.specs.Whole.{open_whole, reach}
@@ -41,8 +40,8 @@ use Rattle.hs_tails.proofs.MovedLemmas.{proposed_operations}
 use Rattle.hs_tails.proofs.OpenLinesLemmas.{lead_lines}
 use Rattle.hs_tails.proofs.SameViewLemmas.{same_propose}
 use Rattle.hs_tails.specs.Chosen.{tail_behind}
-use Rattle.hs_tails.specs.Lines.{IsUnderWay, WaitsToLog, is_viewed}
-use Rattle.hs_tails.specs.Run.{KeepsLinesOpen, RunsWithOpenTails, took_in}
+use Rattle.hs_tails.specs.Lines.{is_viewed}
+use Rattle.hs_tails.specs.Run.{RunsWithOpenTails}
 use Rattle.hs_tails.specs.Tails.{HasOpenLines}
 
 -- no operation is there, no View has taken effect, and no line has come

@@ -1,8 +1,6 @@
 -- The lines of what disks may have stay open: as a run begins, and behind an event.
-use Rattle.std.proofs.Common.{◌≡◌, ◌⊎◌, ◌∙◌, ap, sym, subst, refl, inl, inr, arith, ℕ, zero, suc, ◌+◌, ◌-◌, ◌<◌, ◌≤◌, Bool, true, false, List, [], ◌∷◌, ◌++◌, Option, Some, None, cond, length, take}
-use Rattle.std.proofs.lemmas.List.{length-map}
-use Rattle.std.specs.Prelude.{drop, map, nat_lt, slice_get, slice_index_or, slice_set}
-use Rattle.hs_anatomy.proofs.LookLemmas.{one_or_other}
+use Rattle.std.proofs.Common.{◌≡◌, ◌⊎◌, ◌∙◌, ap, sym, subst, refl, inl, inr, arith, ℕ, zero, suc, ◌+◌, ◌-◌, ◌<◌, Bool, true, false, List, [], ◌∷◌, ◌++◌, Some, None, cond, length, take}
+use Rattle.std.specs.Prelude.{drop, map, nat_lt, slice_get}
 use Rattle.hs_anatomy.proofs.StepLemmas.{step_is}
 use Rattle.hs_anatomy.specs.Acts.{begun}
 use Rattle.hs_answered.specs.Telling.{Judging}
@@ -14,7 +12,6 @@ use Rattle.hs_core_copies.specs.InStep.{IsInStep, IsOf}
 use Rattle.hs_core_copies.specs.Lists.{numbered}
 use Rattle.hs_core_words.specs.declared.event.Event.{Event}
 use Rattle.hs_core_words.specs.Looking.{front_of, group_of, operation_of, shape_of}
-use Rattle.hs_core_words.specs.Records.{HasRecordRoom}
 use Rattle.hs_core_words.specs.State.{Core}
 use Rattle.hs_core_words.specs.Step.{do_event, end_event, keep_entries, refuse_entries, step}
 use Rattle.hs_effects.specs.Logged.{IsOrderly}
@@ -56,11 +53,11 @@ use Rattle.hs_tails.proofs.LinedWalk.{fine_lined}
 use Rattle.hs_tails.proofs.ReachLemmas.{reach_now}
 use Rattle.hs_tails.proofs.SameViewLemmas.{HasSameViews}
 use Rattle.hs_tails.proofs.StampedLemmas.{reached_by, reached_front, reached_stays}
-use Rattle.hs_tails.proofs.StepLemmas.{in_step, k, kt, low_before, low_then, machines_on, own_before, shape_then, stay, stays, stood, tail_parts, tails_on, takes, waits_behind, words}
+use Rattle.hs_tails.proofs.StepLemmas.{in_step, k, kt, low_before, machines_on, own_before, shape_then, stay, stays, stood, tail_parts, tails_on, takes, waits_behind, words}
 use Rattle.hs_tails.proofs.WaitsLemmas.{waits_open}
 use Rattle.hs_tails.specs.Chosen.{tail_behind}
-use Rattle.hs_tails.specs.Lines.{AreParked, AreReached, IsUnderWay, WaitsToLog, is_viewed}
-use Rattle.hs_tails.specs.Run.{HaveOpenLines, KeepsLinesOpen, RunsWithOpenTails, RunsWithTails, took_in}
+use Rattle.hs_tails.specs.Lines.{WaitsToLog, is_viewed}
+use Rattle.hs_tails.specs.Run.{KeepsLinesOpen, RunsWithOpenTails, RunsWithTails, took_in}
 use Rattle.hs_tails.specs.Tails.{HasOpenLines, RestsIn, TakesFirst}
 
 -- the lines of a front of the lead's list are open

@@ -1,12 +1,12 @@
 -- Of what a stop may leave of the disks of a shard, the list of greatest rank has all that took effect, and so may be chosen.
-use Rattle.std.proofs.Common.{◌≡◌, ◌⊎◌, ◌∙◌, ap, sym, subst, refl, inl, inr, arith, ℕ, zero, suc, ◌+◌, ◌<◌, ◌≤◌, ◌==◌, ◌&&◌, ◌||◌, nat_lt, eqb-true, not, Bool, true, false, if◌then◌else◌, List, [], ◌∷◌, ◌++◌, length, take}
-use Rattle.std.proofs.lemmas.Bool.{cases_lt, eq-eqb, lt-ltb, ltb-false}
-use Rattle.std.proofs.lemmas.List.{length-append, length-map, length-take-le}
+use Rattle.std.proofs.Common.{◌≡◌, ◌∙◌, ap, sym, subst, refl, inl, inr, arith, ℕ, zero, suc, ◌+◌, ◌<◌, ◌≤◌, nat_lt, not, Bool, true, false, if◌then◌else◌, List, [], ◌∷◌, ◌++◌, length, take}
+use Rattle.std.proofs.lemmas.Bool.{cases_lt, eq-eqb, ltb-false}
+use Rattle.std.proofs.lemmas.List.{length-map}
 use Rattle.std.proofs.lemmas.List.Elements.{All-head, All-tail}
 use Rattle.std.proofs.lemmas.List.FromFn.{length-enumerate_from}
-use Rattle.std.specs.List.{All, enumerate_from}
+use Rattle.std.specs.List.{enumerate_from}
 use Rattle.std.specs.Prelude.{fold, map}
-use Rattle.hs_copies.proofs.ListLemmas.{front_both, front_length, front_trans}
+use Rattle.hs_copies.proofs.ListLemmas.{front_both, front_trans}
 use Rattle.hs_copies.proofs.OpenedLemmas.{took_good}
 use Rattle.hs_copies.proofs.StampLemmas.{told_lineage}
 use Rattle.hs_copies.specs.Invariant.{reach as machine_reach}
@@ -19,8 +19,7 @@ use Rattle.hs_core_copies.proofs.UnsealedLemmas.{numbered_take}
 use Rattle.hs_core_copies.specs.InStep.{IsInStep, IsOf}
 use Rattle.hs_core_copies.specs.Knowing.{IsKnown}
 use Rattle.hs_core_copies.specs.Lists.{numbered}
-use Rattle.hs_core_words.specs.Looking.{front_of, group_of, sealed_of, shape_of, status_of}
-use Rattle.hs_core_words.specs.State.{Core}
+use Rattle.hs_core_words.specs.Looking.{group_of, sealed_of, shape_of}
 use Rattle.hs_entry.specs.declared.entry.Entry.{Entry}
 use Rattle.hs_entry.specs.declared.entry.Entry.TheVariants as kind
 use Rattle.hs_entry.specs.declared.rank.Rank.{Rank}
@@ -28,7 +27,6 @@ use Rattle.hs_entry.specs.Entries.{IsPrefix, is_of_base, rank_after, rank_of}
 use Rattle.hs_events.specs.Whole.{Whole, counts, floor, reach}
 use Rattle.hs_fold.specs.Opened.{outranks}
 use Rattle.hs_fold.specs.Shards.Setting.{Numbered}
-use Rattle.hs_limits.specs.declared.limits.PeerStatus.TheVariants.{Good}
 use Rattle.hs_limits.specs.declared.shape.Shape.{Shape}
 use Rattle.hs_members.specs.Members.{home_of, is_good_status}
 use Rattle.hs_replica.specs.Group.{copy_of, view_after}

@@ -1,19 +1,18 @@
 -- What a disk may have behind an event is a front of the lead's list, or what it might have had before.
-use Rattle.std.proofs.Common.{◌≡◌, ◌≢◌, ◌⊎◌, ◌∙◌, ap, sym, subst, refl, inl, inr, arith, ℕ, suc, ◌+◌, ◌-◌, ◌==◌, ◌&&◌, eqb-true, Bool, true, false, if◌then◌else◌, List, [], ◌∷◌, ◌++◌, Option, Some, None, append-nil, length}
+use Rattle.std.proofs.Common.{◌≡◌, ◌⊎◌, ◌∙◌, ap, sym, subst, refl, inl, inr, arith, ℕ, suc, ◌+◌, ◌-◌, ◌==◌, ◌&&◌, eqb-true, Bool, true, false, if◌then◌else◌, List, [], ◌∷◌, ◌++◌, Option, Some, None, append-nil, length}
 use Rattle.std.proofs.lemmas.List.{length-map}
 use Rattle.std.specs.List.{enumerate_from}
-use Rattle.std.specs.Option.{option_map, option_map_or}
+use Rattle.std.specs.Option.{option_map}
 use Rattle.std.specs.Prelude.{drop, map, take, unwrap_or}
 use Rattle.hs_copies.proofs.ListLemmas.{front_append, front_trans}
 use Rattle.hs_copies.proofs.PeerLemmas.{put_cases}
 use Rattle.hs_copies.proofs.StandLemmas.{HasLead, stands_lead}
 use Rattle.hs_copies.specs.Invariant.{reach as machine_reach}
 use Rattle.hs_copies.specs.Lists.{IsFront, Item}
-use Rattle.hs_copies.specs.Machine.{Clearing, Copies, Down as DownStage, Following, Good as GoodStage, Stage, after_events, put_at}
+use Rattle.hs_copies.specs.Machine.{Copies, Following, Good as GoodStage, after_events, put_at}
 use Rattle.hs_copies.specs.Standing.{stage_of}
 use Rattle.hs_core_copies.proofs.BesideLemmas.{home_of_peer}
 use Rattle.hs_core_copies.proofs.GoingLemmas.{GoesTold}
-use Rattle.hs_core_copies.proofs.NextLemmas.{first_is_next}
 use Rattle.hs_core_copies.proofs.StepLemmas.{lead_in_step}
 use Rattle.hs_core_copies.proofs.StepsLemmas.{steps_tell, was_going}
 use Rattle.hs_core_copies.specs.InStep.{IsInStep, IsOf, copies_in, rejoin_at}
@@ -37,7 +36,7 @@ use Rattle.hs_limits.specs.declared.limits.PeerStatus.{PeerStatus}
 use Rattle.hs_limits.specs.declared.limits.PeerStatus.TheVariants.{Down, Good, Joining}
 use Rattle.hs_members.specs.Members.{home_of}
 use Rattle.hs_rejoin.specs.Rejoin.{Rejoin, new_rejoin, next_job}
-use Rattle.hs_replica.specs.Group.{Group, IsHome, entries_above, length_of}
+use Rattle.hs_replica.specs.Group.{Group, entries_above, length_of}
 use Rattle.hs_whole_copies.proofs.AddedLemmas.{is_resting}
 use Rattle.hs_whole_copies.proofs.AllLemmas.{shape_after}
 use Rattle.hs_whole_copies.proofs.ReachLemmas.{copies_not}

@@ -1,9 +1,9 @@
 -- Changes by which no shard reaches its View, and none comes to another view.
 use Rattle.std.proofs.Common.{◌≡◌, ◌∙◌, ap, sym, refl, inl, inr, ℕ, ◌+◌, Bool, true, false, List, [], ◌∷◌, Option, Some, None}
 use Rattle.std.specs.List.{list_all}
-use Rattle.std.specs.Option.{option_map, option_map_or}
+use Rattle.std.specs.Option.{option_map_or}
 use Rattle.std.specs.Prelude.{drop, if◌then◌else◌, is_some, nat_le}
-use Rattle.hs_anatomy.specs.Acts.{Aside, Copies, Empties, Hears, Loses, Repeats, Reports, Resends, Seals, Starts, Takes, Views, sealed_by, without_job}
+use Rattle.hs_anatomy.specs.Acts.{Aside, Copies, Empties, Hears, Loses, Repeats, Reports, Resends, Seals, Starts, Takes, Views, without_job}
 use Rattle.hs_anatomy.specs.Effect.{Class, OfBase, OfEnter, OfLine, OfRound, OfView, class_of, done_by, taken, tells_class, told_at_once}
 use Rattle.hs_awaiting.specs.declared.wait.Wait.TheVariants as wait
 use Rattle.hs_awaiting.specs.declared.waiting.Waiting.{Waiting}
@@ -11,7 +11,6 @@ use Rattle.hs_awaiting.specs.Words.{change_if, change_with, each}
 use Rattle.hs_core_words.specs.Asking.{send_round}
 use Rattle.hs_core_words.specs.Changing.{add_entry_tasks, add_operation, change_group, change_pool, change_rejoin, note, post}
 use Rattle.hs_core_words.specs.declared.event.Event.{Event}
-use Rattle.hs_core_words.specs.Delivering.{take_copy}
 use Rattle.hs_core_words.specs.Effects.{note_enter, note_sweep, round_messages, tell_enter, tell_operation}
 use Rattle.hs_core_words.specs.Joining.{begin_joining, follow_lead, joining_peers}
 use Rattle.hs_core_words.specs.Looking.{catalogue_of, group_of, home, lead_of, operation_of, shape_of}

@@ -1,9 +1,8 @@
 -- Lists that are stamped as their entries tell: where their entries are the same, so are their items.
-use Rattle.std.proofs.Common.{◌≡◌, ◌∙◌, ap, sym, subst, refl, inl, inr, arith, ℕ, zero, suc, ◌+◌, ◌<◌, ◌≤◌, List, [], ◌∷◌, ◌++◌, Some, None, length}
+use Rattle.std.proofs.Common.{◌≡◌, ◌∙◌, ap, sym, subst, refl, inl, inr, arith, ℕ, zero, suc, ◌<◌, ◌≤◌, List, [], ◌∷◌, ◌++◌, Some, length}
 use Rattle.std.proofs.lemmas.Bool.{cases_lt}
 use Rattle.std.specs.Prelude.{map, slice_get}
 use Rattle.hs_copies.proofs.ChangeLemmas.{log_below}
-use Rattle.hs_copies.proofs.ListLemmas.{front_length}
 use Rattle.hs_copies.proofs.OpenedLemmas.{settled_right}
 use Rattle.hs_copies.proofs.StampLemmas.{log_tells, stamped_prefix}
 use Rattle.hs_copies.specs.Invariant.{AreFaithful, reach}

@@ -1,5 +1,5 @@
 -- Where a run of any number of copies stands so, what a stop leaves of it may be chosen.
-use Rattle.std.proofs.Common.{◌≡◌, ◌∙◌, ap, sym, subst, refl, arith, ℕ, zero, suc, ◌+◌, ◌<◌, ◌≤◌, true, List, [], ◌∷◌, ◌++◌, Some, None, append-nil, length, take}
+use Rattle.std.proofs.Common.{◌≡◌, ◌∙◌, ap, sym, subst, refl, arith, ℕ, zero, suc, ◌+◌, ◌<◌, ◌≤◌, List, [], ◌∷◌, ◌++◌, Some, append-nil, length, take}
 use Rattle.std.proofs.lemmas.List.{ext_get_or, length-map}
 use Rattle.std.proofs.lemmas.List.Elements.{All-from_recursion, recursion_from_All}
 use Rattle.std.proofs.lemmas.List.FromFn.{length-enumerate_from}
@@ -17,14 +17,14 @@ use Rattle.hs_core_copies.proofs.LeadLemmas.{lead_is}
 use Rattle.hs_core_copies.proofs.NextLemmas.{front_take, map_take}
 use Rattle.hs_core_copies.proofs.StepLemmas.{lead_in_step}
 use Rattle.hs_core_copies.proofs.UnsealedLemmas.{numbered_take}
-use Rattle.hs_core_copies.specs.InStep.{IsInStep, IsOf, copies_in}
+use Rattle.hs_core_copies.specs.InStep.{IsOf, copies_in}
 use Rattle.hs_core_copies.specs.Lists.{numbered}
-use Rattle.hs_core_words.specs.Looking.{first_job, front_of, group_of, lead_of, operation_of, shape_of, status_of}
+use Rattle.hs_core_words.specs.Looking.{front_of, lead_of, operation_of, shape_of, status_of}
 use Rattle.hs_core_words.specs.State.{Core}
 use Rattle.hs_effects.specs.Taking.{setting_of}
 use Rattle.hs_entry.specs.declared.entry.Entry.{Entry}
 use Rattle.hs_entry.specs.Entries.{IsPrefix}
-use Rattle.hs_events.specs.Whole.{Whole, counts, reach}
+use Rattle.hs_events.specs.Whole.{Whole, reach}
 use Rattle.hs_fold.proofs.PrefixLemmas.{last-length}
 use Rattle.hs_fold.specs.Lawful.{Deed, list_at}
 use Rattle.hs_fold.specs.Prefix.{IsNumbered, last_of}
@@ -42,7 +42,6 @@ use Rattle.hs_limits.specs.declared.limits.Limits.{Limits}
 use Rattle.hs_limits.specs.declared.limits.PeerStatus.TheVariants.{Good}
 use Rattle.hs_limits.specs.declared.shape.Shape.{Shape}
 use Rattle.hs_limits.specs.Shape.{IsShape}
-use Rattle.hs_members.specs.Members.{home_of}
 use Rattle.hs_model.specs.Store.{reborn}
 use Rattle.hs_standing.proofs.RunLemmas.{run_suffices}
 use Rattle.hs_standing.proofs.SettleLemmas.{folds_at, settled_at, within_as}
@@ -56,9 +55,9 @@ use Rattle.hs_whole_copies.proofs.PlainLemmas.{plain_take}
 use Rattle.hs_whole_copies.specs.Whole.{ArePlain, IsShardInStep, longest}
 use Rattle.hs_tails.proofs.EntryLemmas.{is_numbered, what}
 use Rattle.hs_tails.proofs.ReachLemmas.{good_longest}
-use Rattle.hs_tails.specs.Chosen.{IsGoodToChoose, TailsStand, disks_of, lead_lists, tail_behind, took_of}
+use Rattle.hs_tails.specs.Chosen.{TailsStand, disks_of, lead_lists, tail_behind, took_of}
 use Rattle.hs_tails.specs.Run.{HaveOpenLines, RunsWithTails, took_in}
-use Rattle.hs_tails.specs.Tails.{RestsIn, TailRests}
+use Rattle.hs_tails.specs.Tails.{TailRests}
 
 settled_long : (lists : Lists) (k n : ℕ) → length (settled_from lists k n) ≡ n
 settled_long lists k zero = refl

@@ -1,5 +1,5 @@
 -- A run of any number of copies goes on by an event: what disks may have stays good.
-use Rattle.std.proofs.Common.{◌≡◌, ◌⊎◌, ◌∙◌, ap, sym, subst, refl, inl, inr, arith, ℕ, ◌+◌, ◌<◌, List, [], ◌∷◌, ◌++◌, None, append_assoc, length}
+use Rattle.std.proofs.Common.{◌≡◌, ◌∙◌, ap, sym, subst, refl, inl, inr, arith, ℕ, ◌+◌, ◌<◌, List, [], ◌∷◌, ◌++◌, None, append_assoc, length}
 use Rattle.std.proofs.lemmas.List.{length-map, map-append, take-append-drop}
 use Rattle.std.specs.List.{enumerate_from}
 use Rattle.std.specs.Prelude.{drop, map}
@@ -41,7 +41,7 @@ use Rattle.hs_standing.specs.Run.{MayRun}
 use Rattle.hs_standing.specs.Standing.{AllMayKeep, MayKeep, judging_of}
 use Rattle.hs_standing.specs.Start.{Start}
 use Rattle.hs_whole_copies.proofs.AllLemmas.{all_stay, shape_after}
-use Rattle.hs_whole_copies.specs.Whole.{IsShardInStep, IsWholeInStep, StaysWhole, longest}
+use Rattle.hs_whole_copies.specs.Whole.{IsShardInStep, StaysWhole, longest}
 use Rattle.hs_tails.proofs.AlongLemmas.{takes_first}
 use Rattle.hs_tails.proofs.EntryLemmas.{dropped_first, dropped_map, front_behind, front_prefix, prefix_entries, prefix_trans, tail_is, what}
 use Rattle.hs_tails.proofs.FrontLemmas.{front_rests}

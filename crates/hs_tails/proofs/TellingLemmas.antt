@@ -1,16 +1,16 @@
 -- Of what an entry tells that takes effect: the operation of its line alone goes on.
-use Rattle.std.proofs.Common.{◌≡◌, ◌∙◌, ap, sym, subst, ◌⊎◌, inl, inr, ℕ, ◌+◌, ◌<◌, ◌≤◌, ◌==◌, Bool, true, false, List, Option, Some, None, refl, arith}
+use Rattle.std.proofs.Common.{◌≡◌, ◌∙◌, ap, sym, subst, inl, inr, ℕ, ◌+◌, Bool, true, false, List, Option, Some, None, refl, arith}
 use Rattle.std.proofs.lemmas.Bool.{cases_eq, eq-eqb, ne_eqb}
 use Rattle.std.specs.BTreeMap.{is_at}
 use Rattle.std.specs.List.{list_all}
 use Rattle.std.specs.Map.{lookup}
 use Rattle.std.specs.Ordering.{nat_cmp}
-use Rattle.std.specs.Prelude.{if◌then◌else◌, is_some, nat_le, slice_get}
-use Rattle.hs_anatomy.specs.Effect.{class_of, done_by, taken, tells_class, told_at_once}
+use Rattle.std.specs.Prelude.{if◌then◌else◌, is_some, nat_le}
+use Rattle.hs_anatomy.specs.Effect.{done_by, taken, told_at_once}
 use Rattle.hs_awaiting.specs.declared.waiting.Waiting.{Waiting}
 use Rattle.hs_awaiting.specs.Words.{change_if, change_with}
 use Rattle.hs_core_words.specs.Changing.{note}
-use Rattle.hs_core_words.specs.Effects.{note_enter, note_sweep, tell_enter, tell_operation}
+use Rattle.hs_core_words.specs.Effects.{note_enter, note_sweep, tell_operation}
 use Rattle.hs_core_words.specs.Looking.{catalogue_of, front_of, group_of, operation_of}
 use Rattle.hs_core_words.specs.Operating.{take_step}
 use Rattle.hs_core_words.specs.Seeing.{view_for}
@@ -30,7 +30,7 @@ use Rattle.hs_ops.specs.Operations.{effect_step}
 use Rattle.hs_replica.specs.Group.{committed}
 use Rattle.hs_shard.specs.Facts.{Catalogue}
 use Rattle.hs_tails.proofs.LinedLemmas.{TellsLine}
-use Rattle.hs_tails.proofs.MovedLemmas.{MovesAt, carried, effect_wants}
+use Rattle.hs_tails.proofs.MovedLemmas.{carried, effect_wants}
 use Rattle.hs_tails.specs.Lines.{is_viewed}
 
 some_line : (j k : ℕ) → Some j ≡ Some k → j ≡ k

@@ -1,23 +1,19 @@
 -- A run over sound lists, of any number of copies, between two events, with what its disks may have: each list that a stop may leave to be chosen rests.
-use Rattle.std.specs.Prelude.{◌≡◌, ◌⊎◌, ℕ, ◌<◌, ◌≤◌, false, true, List, [], All, AllPairs, length}
+use Rattle.std.specs.Prelude.{◌≡◌, ◌⊎◌, ℕ, ◌<◌, ◌≤◌, false, true, List, [], length}
 use Rattle.hs_copies.specs.Machine.{Copies}
 use Rattle.hs_core_copies.specs.InStep.{IsOf}
 use Rattle.hs_core_copies.specs.Lists.{numbered}
 use Rattle.hs_core_words.specs.Looking.{front_of, shape_of, status_of}
 use Rattle.hs_core_words.specs.Records.{HasRecordRoom}
-use Rattle.hs_core_words.specs.State.{Core}
 use Rattle.hs_entry.specs.declared.entry.Entry.{Entry}
 use Rattle.hs_entry.specs.Entries.{IsPrefix, rank_of}
 use Rattle.hs_events.specs.Whole.{Whole, counts, floor, reach}
-use Rattle.hs_fold.specs.Lawful.{Ascends, Deed}
 use Rattle.hs_fold.specs.Opened.{outranks}
 use Rattle.hs_fold.specs.Runs.Catalogue.{catalogue_of}
 use Rattle.hs_fold.specs.Runs.Facts.{Catalogue as Folded}
 use Rattle.hs_fold.specs.Runs.Fits.{catalogue_at}
-use Rattle.hs_fold.specs.Runs.History.{FitAll, follow_all, no_entries}
-use Rattle.hs_fold.specs.Shards.Setting.{Numbered, Setting, shard_in}
+use Rattle.hs_fold.specs.Shards.Setting.{Numbered, shard_in}
 use Rattle.hs_fold.specs.Shards.Sound.{HasRisingViews}
-use Rattle.hs_joint.specs.Along.{KeepFewRecords}
 use Rattle.hs_laws.specs.Valid.{IsValid}
 use Rattle.hs_limits.specs.declared.limits.PeerStatus.TheVariants.{Good}
 use Rattle.hs_standing.specs.Held.{GivesAddresses}

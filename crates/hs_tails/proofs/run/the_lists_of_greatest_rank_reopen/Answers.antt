@@ -1,4 +1,3 @@
-use Rattle.hs_events.specs.Found.{first_core}
 use Rattle.hs_events.specs.Whole.{Whole, open_whole}
 use Rattle.hs_tails.proofs.OpenFirstLemmas.{first_begun}
 use Rattle.hs_tails.proofs.RankLemmas.{may_be_chosen}
