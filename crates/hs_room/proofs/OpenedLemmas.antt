@@ -145,20 +145,17 @@ module _ (opening : OpeningLaws) (laws : CallLaws) (tells : Type 0) (told : tell
     why = elim fell.why [
       | inl asks ↦ absurd (no_line_asks asks)
       | inr fails ↦
-          by_report set.shape.copies p call (cases_eq set.shape.copies 1)
-          (λ one. rose_below (failures true p first o.events) (seen_at span.old p).faults (seen_at o.disks p).faults (seen_at span.new p).faults (o.falls p) (counted one p))
-          (rose_below (failures false p first o.events) (seen_at span.old p).faults (seen_at o.disks p).faults (seen_at span.new p).faults (o.falls p) (o.counted.failed p)) fails
+          by_report set.shape.copies (peer_of set.shape g fell.copy) call (cases_eq set.shape.copies 1)
+          (λ one. rose_below (failures true (peer_of set.shape g fell.copy) first o.events) (seen_at span.old (peer_of set.shape g fell.copy)).faults (seen_at o.disks (peer_of set.shape g fell.copy)).faults (seen_at span.new (peer_of set.shape g fell.copy)).faults (o.falls (peer_of set.shape g fell.copy)) (counted one (peer_of set.shape g fell.copy)))
+          (rose_below (failures false (peer_of set.shape g fell.copy) first o.events) (seen_at span.old (peer_of set.shape g fell.copy)).faults (seen_at o.disks (peer_of set.shape g fell.copy)).faults (seen_at span.new (peer_of set.shape g fell.copy)).faults (o.falls (peer_of set.shape g fell.copy)) (o.counted.failed (peer_of set.shape g fell.copy))) fails
     ];
   }
     where
       fell : FellIn (mute commands) set.shape set.limits refl 0 g (first_core set o.found) o.events
       fell = lost_line laws start 0 0 first o.events so first_going low may come its_all mute_its g over
 
-      abbrev p : ℕ
-      p = peer_of set.shape g fell.copy
-
-      no_line_asks : mute commands 0 ≡ Some (command.Fail p) → ⊥
-      no_line_asks asks = let both : None ≡ Some (command.Fail p) = asks in cc both
+      no_line_asks : mute commands 0 ≡ Some (command.Fail (peer_of set.shape g fell.copy)) → ⊥
+      no_line_asks asks = let both : None ≡ Some (command.Fail (peer_of set.shape g fell.copy)) = asks in cc both
 
   pub opened_ends : entries_most commands set.shape 0 ≤ set.limits.ops
       → EndsWell set.shape (record { asked = None; core = first_core set o.found; events = o.events; old = span.old; new = span.new }) done
