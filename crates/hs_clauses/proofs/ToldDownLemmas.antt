@@ -1,17 +1,16 @@
 -- Who is not good as a core opens is told to be down, at that moment; and what is told stays told.
-use Rattle.std.proofs.Common.{◌≡◌, ◌∙◌, inl, inr, ap, sym, subst, ℕ, zero, suc, ◌+◌, ◌*◌, ◌<◌, ◌≤◌, ◌==◌, ◌&&◌, ◌||◌, not, Bool, true, false, List, [], ◌∷◌, ◌++◌, Option, Some, None, refl, length, nat_lt, arith, is_none, if◌then◌else◌}
+use Rattle.std.proofs.Common.{◌≡◌, ◌∙◌, inl, inr, ap, sym, subst, ℕ, zero, suc, ◌+◌, ◌*◌, ◌<◌, ◌≤◌, ◌||◌, not, Bool, true, false, List, [], ◌∷◌, ◌++◌, None, refl, length, nat_lt, arith, is_none, if◌then◌else◌}
 use Rattle.std.proofs.lemmas.Bool.{cases_eq}
 use Rattle.std.specs.List.{list_any, range_with_len}
 use Rattle.hs_awaiting.specs.Words.{change_if, each}
 use Rattle.hs_clauses.proofs.NoteLemmas.{Silent, all_silent}
-use Rattle.hs_core_words.specs.Changing.{change_pool, note}
+use Rattle.hs_core_words.specs.Changing.{note}
 use Rattle.hs_core_words.specs.declared.event.Event.{Event}
-use Rattle.hs_core_words.specs.declared.event.Event.TheVariants as event
 use Rattle.hs_core_words.specs.Looking.{shards_of, status_of}
 use Rattle.hs_core_words.specs.Opening.{Taken, begin_views, first_members, new_core, note_down, note_if_down, open_core}
 use Rattle.hs_core_words.specs.State.{Core}
-use Rattle.hs_core_words.specs.Step.{begin_event, do_event, end_event, keep_entries, line_of, refuse_entries, run_event, step}
-use Rattle.hs_events.proofs.KeepLemmas.{Leaves, ReportLeaves, keeps_do, with_line}
+use Rattle.hs_core_words.specs.Step.{begin_event, do_event, keep_entries, line_of, refuse_entries, run_event, step}
+use Rattle.hs_events.proofs.FrameLemmas.{Frame, frame_done}
 use Rattle.hs_events.specs.Course.{steps}
 use Rattle.hs_events.specs.Due.{Events}
 use Rattle.hs_journal.specs.declared.entry.JournalEntry.{JournalEntry}
@@ -21,7 +20,6 @@ use Rattle.hs_limits.specs.declared.shape.Shape.{Shape}
 use Rattle.hs_members.specs.Members.{Members, all_peers, is_good_status, status}
 use Rattle.hs_model.specs.declared.deed.Deed.TheVariants as deed
 use Rattle.hs_model.specs.declared.reply.Reply.TheVariants as reply
-use Rattle.hs_post.specs.Pool.{is_empty, restart_numbers}
 
 -- ---- some entry passes a test
 
@@ -108,53 +106,8 @@ module _ (test : JournalEntry → Bool) where
 -- ---- what is told stays told
 
 -- an event's entries are put behind the journal as it ends
-leaves : Leaves (λ (c d : Core). d.journal ≡ c.journal)
-leaves = record {
-  same = λ c. refl;
-  both = λ a b c f g. g ∙ f;
-  catalogue = λ shard x c. refl;
-  viewed = λ shard x c. refl;
-  status = λ peer x c. refl;
-  tasks = λ peer x c. refl;
-  rejoin = λ peer x c. refl;
-  pool = λ x c. refl;
-  operations = λ x c. refl;
-  sessions = λ x c. refl;
-  noted = λ who deed reply c. refl;
-  proposes = λ shard entry c. refl;
-  takes = λ shard peer entry c. refl;
-  hears = λ shard from view sealed c. refl;
-  renews = λ shard c. refl;
-  commits = λ shard c. refl;
-}
-
-report_leaves : ReportLeaves (λ (c d : Core). d.journal ≡ c.journal)
-report_leaves = record {
-  seals = λ shard peer number c. refl;
-  empties = λ shard peer c. refl;
-  copies = λ shard peer number c. refl;
-}
-
-lined : (e : Event) (c : Core) → (with_line e c).journal ≡ c.journal
-lined (event.Line line o) c = refl
-lined (event.Report peer d) c = refl
-lined (event.Turn line peer) c = refl
-lined (event.Deliver line number) c = refl
-lined (event.Lose line number) c = refl
-lined (event.Repeat line number) c = refl
-lined (event.Nudge line peer) c = refl
-lined (event.Fail line peer) c = refl
-lined (event.Start line peer) c = refl
-
-begins_so : (b : Bool) (at line : ℕ) (c : Core) → (record (change_if b (change_pool restart_numbers) c) { moment = at; progress = record c.progress { event_line = line } }).journal ≡ c.journal
-begins_so true at line c = refl
-begins_so false at line c = refl
-
 done_journal : (e : Event) (at : ℕ) (c : Core) → (do_event e (begin_event (line_of e) at c)).journal ≡ c.journal
-done_journal e at c =
-    let b : Core = begin_event (line_of e) at c in
-    keeps_do leaves report_leaves e b ∙ lined e b
-    ∙ begins_so ((c.progress.event_line == 0 && not (line_of e == 0)) && is_empty c.pool) at (if line_of e == 0 then c.progress.event_line else line_of e) c
+done_journal e at c = ap (λ (f : Frame). f.journal) (frame_done e at c)
 
 module _ (test : JournalEntry → Bool) where
   told_step : (e : Event) (at : ℕ) (c : Core) → list_any test c.journal ≡ true → list_any test (step e at c).journal ≡ true
