@@ -45,7 +45,6 @@ any_right p (x ∷ xs) ys e = go (p x) (any_right p xs ys e)
 abbrev pub down_note : ℕ → ℕ → JournalEntry
 down_note peer moment = record { who = who.Store; moment = moment; deed = deed.Nothing; reply = reply.Down peer 0 }
 
-
 module _ (test : JournalEntry → Bool) where
   keeps_told : (peer : ℕ) (c : Core) → list_any test c.entries ≡ true → list_any test (note_if_down peer c).entries ≡ true
   keeps_told peer c told = go (not (is_good_status (status_of peer c)))
