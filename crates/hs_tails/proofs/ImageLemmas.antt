@@ -1,8 +1,8 @@
 -- What images that count at a moment amount to, of a store of any number of copies: the list of greatest rank of each shard is taken.
-use Rattle.std.proofs.Common.{◌≡◌, ◌≢◌, ◌⊎◌, ◌∙◌, ap, sym, subst, refl, inl, inr, arith, ℕ, zero, suc, ◌+◌, ◌*◌, ◌-◌, ◌<◌, ◌≤◌, ◌==◌, ◌&&◌, ◌||◌, nat_lt, not, Bool, true, false, List, [], ◌∷◌, ◌++◌, Option, Some, None, drop, get_or, length, take, unwrap_or}
+use Rattle.std.proofs.Common.{◌≡◌, ◌≢◌, ◌⊎◌, ◌∙◌, ap, sym, subst, refl, inl, inr, arith, ℕ, zero, suc, ◌+◌, ◌*◌, ◌-◌, ◌/◌, ◌%◌, ◌<◌, ◌≤◌, ◌==◌, ◌&&◌, ◌||◌, nat_lt, not, Bool, true, false, List, [], ◌∷◌, ◌++◌, Option, Some, None, drop, get_or, length, take, unwrap_or}
 use Rattle.std.proofs.lemmas.Bool.{cases_lt, eq-eqb, le-ltb, ne_eqb}
 use Rattle.std.proofs.lemmas.List.{get_or-drop, get_or-take, length-drop, length-take-le}
-use Rattle.std.proofs.lemmas.Nat.{div-mul-add}
+use Rattle.std.proofs.lemmas.Nat.{div-add-mod', div-mul-add, mod_below}
 use Rattle.std.specs.Prelude.{All, AllPairs, if◌then◌else◌, slice_index_or}
 use Rattle.hs_copies.specs.Lists.{IsAtMost}
 use Rattle.hs_core_copies.specs.InStep.{IsOf}
@@ -19,7 +19,7 @@ use Rattle.hs_fold.specs.Opened.{chosen, chosen_each, outranks}
 use Rattle.hs_fold.specs.Prefix.{IsNumbered, last_of}
 use Rattle.hs_fold.specs.Runs.Opened.{catalogues, store_of}
 use Rattle.hs_fold.specs.Shards.Happening.{Happening, happen_all, happenings}
-use Rattle.hs_fold.specs.Shards.Images.{AreGoodImages, Image, IsBlank, IsGoodImage, Stop}
+use Rattle.hs_fold.specs.Shards.Images.{AreGoodImages, HasLeft, Image, IsBlank, Stop}
 use Rattle.hs_fold.specs.Shards.Outstanding.{MayPend, pending, pending_of}
 use Rattle.hs_fold.specs.Shards.Pending.{AreOneRun, changing_lines}
 use Rattle.hs_fold.specs.Shards.Setting.{Numbered, Setting, shard_in}
@@ -34,7 +34,7 @@ use Rattle.hs_model.specs.Store.{reborn}
 use Rattle.hs_moments.specs.Joint.{AtMoment}
 use Rattle.hs_moments.specs.Moments.{GivesFine}
 use Rattle.hs_moments.specs.WholeMachine.{whole_machine}
-use Rattle.hs_side.specs.Current.{list_in}
+use Rattle.hs_side.specs.Current.{current, list_in}
 use Rattle.hs_sound.specs.Stay.{AreSoundAlong}
 use Rattle.hs_standing.proofs.PartLemmas.{goes_front}
 use Rattle.hs_standing.specs.Lists.{Lists, whole_from}
@@ -144,10 +144,10 @@ each_chosen lists c k (suc n) xs same = λ i. first i ∷ rest i
 
     rest : chosen_each n c (drop c xs) ≡ whole_from lists (k + 1) n
     rest = each_chosen lists c (k + 1) n (drop c xs) (λ j low. (
-      let at : k + suc j ≡ k + 1 + j = omega arith in
-      let far : suc j * c ≡ c + j * c = omega arith in
-      ap (λ m. lists.whole m) (sym at) ∙ same (suc j) (omega (arith, low)) ∙ ap (λ m. chosen (take c (drop m xs))) far ∙ ap (λ ys. chosen (take c ys)) (sym (drop_twice (j * c) c xs))
-    ))
+        let at : k + suc j ≡ k + 1 + j = omega arith in
+        let far : suc j * c ≡ c + j * c = omega arith in
+        ap (λ m. lists.whole m) (sym at) ∙ same (suc j) (omega (arith, low)) ∙ ap (λ m. chosen (take c (drop m xs))) far ∙ ap (λ ys. chosen (take c ys)) (sym (drop_twice (j * c) c xs))
+        ))
 
 -- what is pending goes by what took effect of these shards
 same_pending : (set : Setting) (f h : ℕ → ℕ) (g end : ℕ) (some : List Numbered) → g + length some ≡ end → ((shard : ℕ) → shard < end → f shard ≡ h shard) → pending set f g some ≡ pending set h g some
@@ -180,10 +180,18 @@ log_past (image ∷ images) zero high = absurd (omega (arith, high))
 log_past (image ∷ images) (suc q) high = log_past images q (omega (arith, high))
 
 blank_list : (image : Image) → IsBlank image → list_of image ≡ []
-blank_list image blank = rw (blank (Rattle.hs_side.specs.Current.current image)) refl
+blank_list image blank = rw (blank (current image)) refl
 
 rows : (n k w : ℕ) → k < n → k * w + w ≤ n * w
 rows n k w l = grind (arith, l)
+
+-- a peer of a shard is among its own
+between : (shape : Shape) (q g : ℕ) → 1 ≤ shape.copies → home_of shape q ≡ g → (g * shape.copies ≤ q) × (q < g * shape.copies + shape.copies)
+between shape q g some h =
+    let e : q / shape.copies * shape.copies + q % shape.copies ≡ q = div-add-mod' q shape.copies in
+    let m : q % shape.copies < shape.copies = mod_below q shape.copies (omega (arith, some)) in
+    let same : g * shape.copies ≡ q / shape.copies * shape.copies = ap (λ n. n * shape.copies) (sym h) in
+    (omega (arith, e, same), omega (arith, e, m, same))
 
 good_is : (x : PeerStatus) → is_good_status x ≡ true → x ≡ Good
 good_is Good e = refl
@@ -252,7 +260,7 @@ module _ (start : Start) (stop : Stop) (journal : List JournalEntry) (peers_are 
     k = r.whole.each g (subst (λ (x : Shape). g < x.shards) (sym r.shape) low)
 
     -- of a disk that counts
-    gives : (q : ℕ) → counts at.core q ≡ true → Rattle.hs_fold.specs.Shards.Images.HasLeft stop images q → GivesFine whole_machine at.core q (image_at images q)
+    gives : (q : ℕ) → counts at.core q ≡ true → HasLeft stop images q → GivesFine whole_machine at.core q (image_at images q)
     gives q counted there = at.lists q counted (image_at images q) there
 
     prefix_of : (q : ℕ) → q < length images → GivesFine whole_machine at.core q (image_at images q) → IsPrefix (left q) (reach at.core q)
@@ -270,7 +278,7 @@ module _ (start : Start) (stop : Stop) (journal : List JournalEntry) (peers_are 
       ]
     ]
       where
-        by_count : q < length images → Rattle.hs_fold.specs.Shards.Images.HasLeft stop images q → (b : Bool) → counts at.core q ≡ b → IsLeftOf at.core q (left q)
+        by_count : q < length images → HasLeft stop images q → (b : Bool) → counts at.core q ≡ b → IsLeftOf at.core q (left q)
         by_count less there true e = inr (e, prefix_of q less (gives q e there))
         by_count less there false e = let a = at.tells.sane.aside q e in none_of q less (good.aside q a.0 a.1)
 
@@ -335,7 +343,7 @@ module _ (start : Start) (stop : Stop) (journal : List JournalEntry) (peers_are 
             let n = part_long in
             subst (λ (xs : Numbered). IsAtMost (rank_of xs) (rank_of (chosen (part g)))) (part_at i less ∙ ap (λ m. left m) is) (best_up (part g) i (omega (arith, less, n)))
 
-  all_greatest : AreGreatest start at.core left peers
+  pub all_greatest : AreGreatest start at.core left peers
   all_greatest g low = greatest_at g low
 
   taken_is : taken_lists start.set.shape (image_logs images) ≡ greatest_lists start at.core left peers

@@ -11,6 +11,7 @@ pub mod FirstLemmas
 pub mod FrontLemmas
 pub mod GoingLemmas
 pub mod GoneLemmas
+pub mod ImageLemmas
 pub mod KnownLemmas
 pub mod LineLemmas
 pub mod LinedLemmas

@@ -43,7 +43,7 @@ use Rattle.hs_tails.specs.Run.{HasGreatestRank, IsLeftOf, RunsWithTails, took_in
 -- ---- ranks
 
 -- one that another does not outrank is no less
-at_most : (p y : Rank) → outranks p y ≡ false → IsAtMost p y
+pub at_most : (p y : Rank) → outranks p y ≡ false → IsAtMost p y
 at_most p y e = elim (cases_lt p.view y.view) [
   | inl low ↦ inl low
   | inr high ↦ by_view (nat_lt y.view p.view) refl high
@@ -85,7 +85,7 @@ rank_is : (xs : List (Item Entry)) → ArePlain (map what xs) → rank_of (numbe
 unfolding rank_of
 rank_is xs plain = let same : 0 + length xs ≡ length xs = omega arith in rank_from 0 0 xs plain ∙ ap (λ m. record { view = view_told view_after 0 xs; number = m }) same
 
-rank_none : rank_of [] ≡ record { view = 0; number = 0 }
+pub rank_none : rank_of [] ≡ record { view = 0; number = 0 }
 unfolding rank_of
 rank_none = refl
 

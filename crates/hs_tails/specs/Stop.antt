@@ -1,11 +1,12 @@
 -- Where a run of any number of copies stops: at what the lists reopen that are taken of its disks.
-use Rattle.std.specs.Prelude.{◌≡◌, ◌≢◌, ℕ, ◌<◌, List, All, AllPairs}
+use Rattle.std.specs.Prelude.{◌≡◌, ◌≢◌, ℕ, ◌<◌, false, true, List, All, AllPairs}
 use Rattle.hs_core_words.specs.Looking.{front_of}
 use Rattle.hs_events.specs.Course.{happened}
 use Rattle.hs_events.specs.Due.{Events}
 use Rattle.hs_events.specs.Found.{Found, first_core}
-use Rattle.hs_events.specs.Whole.{Whole, open_whole}
+use Rattle.hs_events.specs.Whole.{Whole, counts, open_whole}
 use Rattle.hs_fold.specs.Runs.Opened.{catalogues, store_of}
+use Rattle.hs_fold.specs.Shards.Course.{was_good}
 use Rattle.hs_fold.specs.Shards.Happening.{happen_all, happenings}
 use Rattle.hs_fold.specs.Shards.Images.{Stop}
 use Rattle.hs_fold.specs.Shards.Outstanding.{MayPend, pending}
@@ -34,6 +35,11 @@ pub record ListsReopen (start : Start) (stop : Stop) (journal : List JournalEntr
 pub record MayStopWithTails (start : Start) (stop : Stop) (c : Whole) : Type 0 where
   pub runs : RunsWithOpenTails start c
   pub begun : AreBegun start stop c.core
+
+-- and a disk that doesn't count is of a peer that opening set aside, and that was not good since
+pub record MayStopAside (start : Start) (stop : Stop) (c : Whole) : Type 0 where
+  pub may : MayStopWithTails start stop c
+  pub aside : (peer : ℕ) → counts c peer ≡ false → (stop.aside peer ≡ true) × (was_good stop.course stop.moment peer ≡ false)
 
 -- by shard the peer whose list is of greatest rank, of what a stop may leave of disks
 abbrev pub AreGreatest : Start → Whole → (ℕ → Numbered) → (ℕ → ℕ) → Type 0

@@ -1,21 +1,26 @@
 //! A run of any number of copies, with what its disks may have.
-ghost use Rattle.std.specs.Prelude.{◌≡◌, ℕ, ◌<◌, Contains, None};
+ghost use Rattle.std.specs.Prelude.{◌≡◌, ℕ, ◌<◌, Contains, List, None, length};
 ghost use Rattle.hs_core_words.specs.Records.{HasRecordRoom};
 ghost use Rattle.hs_events.specs.Course.{happened, items_of, steps};
 ghost use Rattle.hs_events.specs.Due.{Events};
 ghost use Rattle.hs_events.specs.Found.{Found, first_core};
+ghost use Rattle.hs_events.specs.Taken.{peer_count};
 ghost use Rattle.hs_events.specs.Whole.{Whole, open_whole};
-ghost use Rattle.hs_fold.specs.Shards.Images.{Stop};
+ghost use Rattle.hs_fold.specs.Shards.Images.{AreGoodImages, Image, Stop};
 ghost use Rattle.hs_fold.specs.Shards.Setting.{Numbered};
+ghost use Rattle.hs_journal.specs.declared.entry.JournalEntry.{JournalEntry};
+ghost use Rattle.hs_journal.specs.Moments.{below};
 ghost use Rattle.hs_model.specs.declared.course.CourseItem.{CourseItem};
+ghost use Rattle.hs_moments.specs.Joint.{AtMoment};
 ghost use Rattle.hs_moments.specs.Machine.{runs, state_at};
 ghost use Rattle.hs_moments.specs.WholeMachine.{whole_machine};
+ghost use Rattle.hs_standing.specs.Reopens.{Reopens};
 ghost use Rattle.hs_standing.specs.Run.{MayRun, RunBegins};
 ghost use Rattle.hs_standing.specs.Standing.{AllMayKeep, AreBegun};
 ghost use Rattle.hs_standing.specs.Start.{Start};
 ghost use Rattle.hs_tails.specs.Chosen.{MayBeChosen, TailsStand, disks_of, lead_lists};
 ghost use Rattle.hs_tails.specs.Run.{HasGreatestRank, RunsWithOpenTails};
-ghost use Rattle.hs_tails.specs.Stop.{AreGreatest, ListsReopen, MayStopWithTails, fronts_of, greatest_lists, left_at};
+ghost use Rattle.hs_tails.specs.Stop.{AreGreatest, ListsReopen, MayStopAside, MayStopWithTails, fronts_of, greatest_lists, left_at};
 
 use crate::chosen_lists_reopen;
 use hs_answered::{
@@ -106,4 +111,18 @@ pub fn the_lists_of_greatest_rank_reopen()
 {
     a_run_goes_on_with_its_tails();
     chosen_lists_reopen();
+}
+
+/// So at a moment of a run of any number of copies whatever images count reopen, where each shard keeps a good peer:
+/// they open at the store behind what was answered below the moment and then what is pending, all of it one legal run;
+/// they are sound; what is pending is of lines that were begun and not answered, or of no line, and of no line twice.
+pub fn images_of_copies_reopen()
+    ensures { (start : Start) (stop : Stop) (journal : List JournalEntry) (images : List Image)
+        → length stop.disks ≡ peer_count start.set.shape
+        → AtMoment whole_machine (MayStopAside start stop) start.set.shape
+        stop.course journal stop.moment stop.disks
+        → AreGoodImages start.set.shape stop images →
+        Reopens start stop (below stop.moment journal) images }
+{
+    the_lists_of_greatest_rank_reopen();
 }
