@@ -1,19 +1,19 @@
 -- What images that count at a moment amount to, of a store of any number of copies: the list of greatest rank of each shard is taken.
-use Rattle.std.proofs.Common.{◌≡◌, ◌≢◌, ◌⊎◌, ◌∙◌, ap, sym, subst, refl, inl, inr, arith, ℕ, zero, suc, ◌+◌, ◌*◌, ◌-◌, ◌/◌, ◌%◌, ◌<◌, ◌≤◌, ◌==◌, ◌&&◌, ◌||◌, nat_lt, not, Bool, true, false, List, [], ◌∷◌, ◌++◌, Option, Some, None, drop, get_or, length, take, unwrap_or}
+use Rattle.std.proofs.Common.{◌≡◌, ◌≢◌, ◌⊎◌, ◌∙◌, ap, sym, subst, refl, inl, inr, arith, ℕ, zero, suc, ◌+◌, ◌*◌, ◌-◌, ◌/◌, ◌%◌, ◌<◌, ◌≤◌, not, Bool, true, false, List, [], ◌∷◌, ◌++◌, Option, drop, get_or, length, take, unwrap_or}
 use Rattle.std.proofs.lemmas.Bool.{cases_lt, eq-eqb, le-ltb, ne_eqb}
 use Rattle.std.proofs.lemmas.List.{get_or-drop, get_or-take, length-drop, length-take-le}
 use Rattle.std.proofs.lemmas.Nat.{div-add-mod', div-mul-add, mod_below}
 use Rattle.std.specs.Prelude.{All, AllPairs, if◌then◌else◌, slice_index_or}
 use Rattle.hs_copies.specs.Lists.{IsAtMost}
 use Rattle.hs_core_copies.specs.InStep.{IsOf}
-use Rattle.hs_core_words.specs.Looking.{front_of, shape_of, status_of}
+use Rattle.hs_core_words.specs.Looking.{shape_of, status_of}
 use Rattle.hs_entry.specs.declared.entry.Entry.{Entry}
 use Rattle.hs_entry.specs.declared.rank.Rank.{Rank}
 use Rattle.hs_entry.specs.Entries.{IsPrefix, rank_of}
 use Rattle.hs_events.specs.Taken.{or_blank, peer_count, taken_lists}
 use Rattle.hs_events.specs.Whole.{Whole, counts, floor, reach}
 use Rattle.hs_fold.proofs.PrefixLemmas.{last-length}
-use Rattle.hs_fold.specs.Good.{is_good, taken_below}
+use Rattle.hs_fold.specs.Good.{taken_below}
 use Rattle.hs_fold.specs.Images.{image_at}
 use Rattle.hs_fold.specs.Opened.{chosen, chosen_each, outranks}
 use Rattle.hs_fold.specs.Prefix.{IsNumbered, last_of}
@@ -28,13 +28,14 @@ use Rattle.hs_journal.specs.Moments.{below}
 use Rattle.hs_limits.specs.declared.limits.PeerStatus.{PeerStatus}
 use Rattle.hs_limits.specs.declared.limits.PeerStatus.TheVariants.{Down, Good, Joining}
 use Rattle.hs_limits.specs.declared.shape.Shape.{Shape}
-use Rattle.hs_limits.specs.Shape.{IsShape, peer_of}
+use Rattle.hs_limits.specs.Shape.{peer_of}
 use Rattle.hs_members.specs.Members.{home_of, is_good_status}
 use Rattle.hs_model.specs.Store.{reborn}
 use Rattle.hs_moments.specs.Joint.{AtMoment}
 use Rattle.hs_moments.specs.Moments.{GivesFine}
 use Rattle.hs_moments.specs.WholeMachine.{whole_machine}
 use Rattle.hs_side.specs.Current.{current, list_in}
+use Rattle.hs_side.specs.Reading.{log_of}
 use Rattle.hs_sound.specs.Stay.{AreSoundAlong}
 use Rattle.hs_standing.proofs.PartLemmas.{goes_front}
 use Rattle.hs_standing.specs.Lists.{Lists, whole_from}
@@ -98,31 +99,36 @@ best (list ∷ lists) = if outranks (rank_of (chosen lists)) (rank_of list) then
 
 best_is : (lists : List Numbered) → 0 < length lists → (best lists < length lists) × (chosen lists ≡ get_or lists (best lists) [])
 best_is [] some = absurd (omega (arith, some))
-best_is (list ∷ lists) some = go (outranks (rank_of (chosen lists)) (rank_of list)) refl (cases_lt 0 (length lists))
+best_is (list ∷ lists) some = go (λ more. best_is lists more) (outranks (rank_of (chosen lists)) (rank_of list)) refl (cases_lt 0 (length lists))
   where
     none_left : (xs : List Numbered) → length xs ≤ 0 → outranks (rank_of (chosen xs)) (rank_of list) ≡ true → ⊥
     none_left [] low e = let wrong : true ≡ false = sym e ∙ none_out (rank_of []) (rank_of list) (least (rank_of list)) in cc wrong
     none_left (x ∷ xs) low e = absurd (omega (arith, low))
 
-    go : (b : Bool) → outranks (rank_of (chosen lists)) (rank_of list) ≡ b → (0 < length lists) ⊎ (length lists ≤ 0)
+    go : (0 < length lists → (best lists < length lists) × (chosen lists ≡ get_or lists (best lists) []))
+        → (b : Bool) → outranks (rank_of (chosen lists)) (rank_of list) ≡ b → (0 < length lists) ⊎ (length lists ≤ 0)
         → ((if b then suc (best lists) else 0) < length (list ∷ lists)) × ((if b then chosen lists else list) ≡ get_or (list ∷ lists) (if b then suc (best lists) else 0) [])
-    go false e more = (omega arith, refl)
-    go true e (inl more) = let h = best_is lists more in ((let low = h.0 in omega (arith, low)), h.1)
-    go true e (inr none) = absurd (none_left lists none e)
+    go later false e more = (omega arith, refl)
+    go later true e (inl more) = let h = later more in ((let low = h.0 in omega (arith, low)), h.1)
+    go later true e (inr none) = absurd (none_left lists none e)
 
 best_up : (lists : List Numbered) (i : ℕ) → i < length lists → IsAtMost (rank_of (get_or lists i [])) (rank_of (chosen lists))
 best_up [] i low = absurd (omega (arith, low))
-best_up (list ∷ lists) i low = go (outranks (rank_of (chosen lists)) (rank_of list)) refl i low
+best_up (list ∷ lists) i low = go (λ j less. best_up lists j less) (outranks (rank_of (chosen lists)) (rank_of list)) refl i low
   where
-    go : (b : Bool) → outranks (rank_of (chosen lists)) (rank_of list) ≡ b → (j : ℕ) → j < length (list ∷ lists) → IsAtMost (rank_of (get_or (list ∷ lists) j [])) (rank_of (if b then chosen lists else list))
-    go true e zero low = above (rank_of (chosen lists)) (rank_of list) e
-    go true e (suc j) low = best_up lists j (omega (arith, low))
-    go false e zero low = most_itself (rank_of list)
-    go false e (suc j) low = most_trans (rank_of (get_or lists j [])) (rank_of (chosen lists)) (rank_of list) (best_up lists j (omega (arith, low))) (at_most (rank_of (chosen lists)) (rank_of list) e)
+    go : ((j : ℕ) → j < length lists → IsAtMost (rank_of (get_or lists j [])) (rank_of (chosen lists)))
+        → (b : Bool) → outranks (rank_of (chosen lists)) (rank_of list) ≡ b → (j : ℕ) → j < length (list ∷ lists) → IsAtMost (rank_of (get_or (list ∷ lists) j [])) (rank_of (if b then chosen lists else list))
+    go later true e zero low = above (rank_of (chosen lists)) (rank_of list) e
+    go later true e (suc j) low = later j (omega (arith, low))
+    go later false e zero low = most_itself (rank_of list)
+    go later false e (suc j) low = most_trans (rank_of (get_or lists j [])) (rank_of (chosen lists)) (rank_of list) (later j (omega (arith, low))) (at_most (rank_of (chosen lists)) (rank_of list) e)
 
 -- ---- the lists of all shards
 
-drop_nil : (k : ℕ) → drop k ([] {A = Numbered}) ≡ []
+abbrev no_lists : List Numbered
+no_lists = []
+
+drop_nil : (k : ℕ) → drop k no_lists ≡ no_lists
 drop_nil zero = refl
 drop_nil (suc k) = refl
 
@@ -134,7 +140,7 @@ drop_twice a (suc b) (x ∷ xs) = let e : suc (b + a) ≡ suc b + a = omega arit
 -- those that these lists give, shard by shard
 each_chosen : (lists : Lists) (c k n : ℕ) (xs : List Numbered) → ((j : ℕ) → j < n → lists.whole (k + j) ≡ chosen (take c (drop (j * c) xs))) → chosen_each n c xs ≡ whole_from lists k n
 each_chosen lists c k zero xs same = refl
-each_chosen lists c k (suc n) xs same = λ i. first i ∷ rest i
+each_chosen lists c k (suc n) xs same = λ i. first i ∷ rest (each_chosen lists c (k + 1) n (drop c xs)) i
   where
     first : chosen (take c xs) ≡ lists.whole k
     first =
@@ -142,8 +148,9 @@ each_chosen lists c k (suc n) xs same = λ i. first i ∷ rest i
         let here : k + 0 ≡ k = omega arith in
         sym (ap (λ m. chosen (take c (drop m xs))) none) ∙ sym (same 0 (omega arith)) ∙ ap (λ m. lists.whole m) here
 
-    rest : chosen_each n c (drop c xs) ≡ whole_from lists (k + 1) n
-    rest = each_chosen lists c (k + 1) n (drop c xs) (λ j low. (
+    rest : (((j : ℕ) → j < n → lists.whole (k + 1 + j) ≡ chosen (take c (drop (j * c) (drop c xs)))) → chosen_each n c (drop c xs) ≡ whole_from lists (k + 1) n)
+        → chosen_each n c (drop c xs) ≡ whole_from lists (k + 1) n
+    rest later = later (λ j low. (
         let at : k + suc j ≡ k + 1 + j = omega arith in
         let far : suc j * c ≡ c + j * c = omega arith in
         ap (λ m. lists.whole m) (sym at) ∙ same (suc j) (omega (arith, low)) ∙ ap (λ m. chosen (take c (drop m xs))) far ∙ ap (λ ys. chosen (take c ys)) (sym (drop_twice (j * c) c xs))
@@ -180,6 +187,7 @@ log_past (image ∷ images) zero high = absurd (omega (arith, high))
 log_past (image ∷ images) (suc q) high = log_past images q (omega (arith, high))
 
 blank_list : (image : Image) → IsBlank image → list_of image ≡ []
+unfolding log_of
 blank_list image blank = rw (blank (current image)) refl
 
 rows : (n k w : ℕ) → k < n → k * w + w ≤ n * w
