@@ -1,13 +1,13 @@
 -- A good peer's list is a front of its lead's, and so is what a stop leaves of its disk at a moment of a run.
-use Rattle.std.proofs.Common.{◌≡◌, ◌∙◌, ap, sym, subst, refl, inl, inr, ℕ, ◌+◌, ◌≤◌, not, Bool, true, false, List, [], ◌∷◌, ◌++◌, Some, None, length, map}
+use Rattle.std.proofs.Common.{◌≡◌, ◌∙◌, ap, sym, subst, refl, inl, inr, ℕ, zero, suc, ◌+◌, not, Bool, true, false, List, [], ◌∷◌, ◌++◌, Some, None, length, map}
 use Rattle.std.proofs.lemmas.Bool.{cases_lt}
 use Rattle.std.proofs.lemmas.List.{append_assoc, map-append}
 use Rattle.std.specs.List.{enumerate_from}
+use Rattle.std.specs.Prelude.{drop, take}
 use Rattle.hs_cluster.proofs.GoingOnLemmas.{going_before}
 use Rattle.hs_cluster.proofs.StretchLemmas.{runs_core}
-use Rattle.hs_cluster.specs.Disks.{seen_at, stands_of}
+use Rattle.hs_cluster.specs.Disks.{stands_of}
 use Rattle.hs_cluster.specs.Kept.{LeavesLists, Span}
-use Rattle.hs_cluster.specs.RunsOn.{RunsOn, from_opening}
 use Rattle.hs_copies.proofs.StandLemmas.{HasLead, stands_lead}
 use Rattle.hs_copies.specs.Lists.{IsFront, Item}
 use Rattle.hs_copies.specs.Machine.{Copies}
@@ -19,11 +19,12 @@ use Rattle.hs_core_copies.specs.Lists.{numbered}
 use Rattle.hs_core_words.specs.Looking.{home, lead_of, shape_of, status_of}
 use Rattle.hs_core_words.specs.State.{Core}
 use Rattle.hs_entry.specs.declared.entry.Entry.{Entry}
+use Rattle.hs_entry.specs.Entries.{rank_of}
 use Rattle.hs_events.specs.Course.{happened, steps}
 use Rattle.hs_events.specs.Due.{Events}
 use Rattle.hs_events.specs.Found.{Found, first_core}
 use Rattle.hs_events.specs.Taken.{peer_count}
-use Rattle.hs_events.specs.Whole.{Whole, counts, open_whole}
+use Rattle.hs_events.specs.Whole.{Whole, counts, open_whole, reach}
 use Rattle.hs_fold.specs.Images.{IsLeft}
 use Rattle.hs_fold.specs.Shards.Setting.{Numbered, Setting}
 use Rattle.hs_limits.specs.declared.limits.PeerStatus.TheVariants.{Down, Good}
@@ -38,13 +39,14 @@ use Rattle.hs_whole_copies.proofs.OpenLemmas.{opens_whole}
 use Rattle.hs_whole_copies.specs.Opening.{MayOpenWhole}
 use Rattle.hs_whole_copies.specs.Whole.{IsShardInStep, IsWholeInStep}
 use Rattle.hs_steady.proofs.PeerLemmas.{good_stage, reach_good}
-use Rattle.hs_steady.proofs.ShowLemmas.{run_shows, stays_along}
+use Rattle.hs_steady.proofs.ShowLemmas.{opened_shows, stays_along}
+use Rattle.hs_steady.proofs.StampLemmas.{one_stamp}
 use Rattle.hs_steady.proofs.SteadyLemmas.{its_shard, past_down}
-use Rattle.hs_steady.specs.Moments.{IsMomentOf}
+use Rattle.hs_steady.specs.Moments.{IsMomentOf, ShowsOpened}
 
 -- ---- lists
 
-what : Item Entry → Entry
+abbrev what : Item Entry → Entry
 what x = x.what
 
 front_rest : {X : Type 0} (xs ys : List X) → IsFront xs ys → (rest : List X) × (ys ≡ xs ++ rest)
@@ -73,8 +75,7 @@ begins_leads g q lead c s k own good leads =
 
 -- ---- at a moment of a run
 
-module _ (tells : Type 0) (set : Setting) (span : Span) (found : Found) (events : Events) (on : RunsOn tells set span found events) (told : tells) (called : (peer : ℕ) → (seen_at span.disks peer).stands.last ≤ span.before)
-    (may : MayOpenWhole set found) (c : Whole) (moment : ℕ) (at : IsMomentOf set found events span c moment) where
+module _ (set : Setting) (found : Found) (events : Events) (span : Span) (shows : ShowsOpened set found events span) (may : MayOpenWhole set found) (c : Whole) (moment : ℕ) (at : IsMomentOf set found events span c moment) where
   abbrev es : Events
   es = until moment (happened (first_core set found) events)
 
@@ -84,15 +85,40 @@ module _ (tells : Type 0) (set : Setting) (span : Span) (found : Found) (events 
   opens : (first_core set found).ended ≡ None
   opens = going_before (first_core set found) es goes
 
-  shown : LeavesLists (open_whole set found) events (from_opening found on.disks span)
-  shown = run_shows tells set span found events on told called may opens
+  shown : LeavesLists (open_whole set found) events span
+  shown = opened_shows set found events span shows may opens
 
   in_step : (machines : ℕ → Copies Entry) × IsWholeInStep c machines
   in_step =
       let first = opens_whole set found may opens in
       subst (λ x. (machines : ℕ → Copies Entry) × IsWholeInStep x machines) at.state (stays_along (open_whole set found) es first.0 first.1 goes)
 
-  module _ (peer : ℕ) (good : status_of peer c.core ≡ Good) where
+  pub fine_at : (peer : ℕ) → counts c peer ≡ true → (image : Side → List ℕ) → IsLeft (disk_at (stands_of span.left) peer) moment image → GivesFine whole_machine c peer image
+  fine_at peer counted image left =
+      subst (λ x. GivesFine whole_machine x peer image) at.state
+      (shown.moments.fine moment peer at.above at.up_to at.early (subst (λ x. counts x peer ≡ true) (sym at.state) counted) image left)
+
+  -- fronts of what two disks of a shard have
+  pub stamps_one : (peer other : ℕ) → IsPeer c.core.members.shape peer → home peer c.core ≡ home other c.core → counts c peer ≡ true → counts c other ≡ true
+      → (image its_image : Side → List ℕ) → IsLeft (disk_at (stands_of span.left) peer) moment image → IsLeft (disk_at (stands_of span.left) other) moment its_image
+      → (list more : Numbered) → list_in image ≡ Some list → list_in its_image ≡ Some more → (n m : ℕ) → rank_of (take n list) ≡ rank_of (take m more) → take n list ≡ take m more
+  stamps_one peer other low same one two image its_image left its_left list more read its_read n m rank =
+      one_stamp c in_step.0 in_step.1 peer other low same (take n list) (take m more) (front_of peer list image (fine_at peer one image left) read n) (front_of other more its_image (fine_at other two its_image its_left) its_read m) rank
+    where
+      parted : (n : ℕ) (xs : Numbered) → xs ≡ take n xs ++ drop n xs
+      parted zero xs = refl
+      parted (suc n) [] = refl
+      parted (suc n) (x ∷ xs) = ap (λ ys. x ∷ ys) (parted n xs)
+
+      front_of : (p : ℕ) (list : Numbered) (image : Side → List ℕ) → GivesFine whole_machine c p image → list_in image ≡ Some list → (n : ℕ) → IsFrontOf p (take n list) (reach c p)
+      front_of p list image fine read n =
+          let both : Some fine.list ≡ Some list = sym fine.read ∙ read in
+          let same : fine.list ≡ list = cc both in (
+            drop n list ++ fine.front.0,
+            fine.front.1 ∙ ap (λ xs. xs ++ fine.front.0) (same ∙ parted n list) ∙ append_assoc (take n list) (drop n list) fine.front.0,
+          )
+
+  module _ (peer lead : ℕ) (good : status_of peer c.core ≡ Good) (leads : lead_of (home peer c.core) c.core ≡ Some lead) where
     within : IsPeer c.core.members.shape peer
     within = elim (cases_lt peer (peer_count (shape_of c.core))) [
       | inl low ↦ low
@@ -109,12 +135,10 @@ module _ (tells : Type 0) (set : Setting) (span : Span) (found : Found) (events 
     shard : IsShardInStep (home peer c.core) c (in_step.0 (home peer c.core))
     shard = its_shard c in_step.0 in_step.1 peer within
 
-    pub begins_lead : (lead : ℕ) → lead_of (home peer c.core) c.core ≡ Some lead → (image : Side → List ℕ) → IsLeft (disk_at (stands_of span.left) peer) moment image → (list : Numbered) → list_in image ≡ Some list
+    pub begins_lead : (image : Side → List ℕ) → IsLeft (disk_at (stands_of span.left) peer) moment image → (list : Numbered) → list_in image ≡ Some list
         → IsFrontOf peer list (c.lists lead)
-    begins_lead lead leads image left list read =
-        let fine : GivesFine whole_machine c peer image =
-        subst (λ x. GivesFine whole_machine x peer image) at.state
-        (shown.moments.fine moment peer at.above at.up_to at.early (subst (λ x. counts x peer ≡ true) (sym at.state) counted) image left) in
+    begins_lead image left list read =
+        let fine : GivesFine whole_machine c peer image = fine_at peer counted image left in
         let both : Some list ≡ Some fine.list = sym read ∙ fine.read in
         let same : list ≡ fine.list = cc both in
         let more = begins_leads (home peer c.core) peer lead c (in_step.0 (home peer c.core)) shard refl good leads in

@@ -3,7 +3,7 @@ use Rattle.std.specs.Prelude.{All, IfSome, None, Option, Some, [], false, length
 use Rattle.hs_settled.specs.Opened.{IsAsideAs, OpensRanked}
 use Rattle.hs_settled.specs.Printing.{FailsInOpening, FailsInText, LeavesUnread}
 use Rattle.hs_clauses.specs.Asked.{start_of}
-use Rattle.hs_clauses.specs.Shown.{IsShown, IsToldRun, OnDisks}
+use Rattle.hs_clauses.specs.Shown.{HasItsDisks, IsShownRun, IsToldAs, IsToldRun, RunsSoundly}
 use Rattle.hs_cluster.specs.Kept.{AreStored}
 use Rattle.hs_desk.specs.declared.fault.CoreFault.{CoreFault}
 use Rattle.hs_settled.specs.Calm.{AreLed, whole_of}
@@ -41,7 +41,7 @@ use Rattle.hs_promise.specs.Machine.{NeverOpened, Went, WentAs, loss_count}
 use Rattle.hs_promise.specs.Run.{DiskRose, Ran, Script}
 use Rattle.hs_promise.specs.Stops.{Stops}
 use Rattle.hs_promise.specs.Story.{Story, all_events}
-use Rattle.hs_promise.specs.Untold.{NoneFails}
+use Rattle.hs_promise.specs.Untold.{IsGoodUntold}
 use Rattle.hs_script.specs.Reading.{commands}
 use Rattle.hs_side.specs.declared.header.Header.{Header}
 use Rattle.hs_standing.specs.Run.{MayRun, RunBegins}
@@ -58,11 +58,10 @@ pub record Laws : Type 0 where
   pub answers : (S : Script) (r : Ran) → IsToldRun S r → IsSoundAtEntry S r → Answers S (entry_store S r) r.journal
   pub full : (S : Script) (r : Ran) → IsToldRun S r → IsSoundAtEntry S r → FullCause S (entry_store S r) r
   pub keeps : (S : Script) (r : Ran) → IsToldRun S r → IsSoundAtEntry S r → KeepsAlong S (entry_store S r) r
-  pub stops : (S : Script) (r : Ran) → IsToldRun S r → KeepsHeaders S r → MayStop S r → Stops S (entry_store S r) r
+  pub stops : (S : Script) (r : Ran) → IsShownRun S r → KeepsHeaders S r → MayStop S r → Stops S (entry_store S r) r
   -- deletion
-  pub opens : (S : Script) (r : Ran) (story : Story) → OnDisks S r → IsShown S r story → IsSoundAtEntry S r → (first_core S.set story.found).ended ≡ None → RunBegins (start_of S r) story.found
-  pub stands : (S : Script) (r : Ran) (story : Story) → OnDisks S r → IsShown S r story → IsSoundAtEntry S r → (first_core S.set story.found).ended ≡ None
-      → AllMayKeep (start_of S r) (MayRun (start_of S r)) (first_core S.set story.found) (all_events story)
+  pub soundly : (S : Script) (r : Ran) (story : Story) → HasItsDisks S r → IsToldAs S r story → IsSoundAtEntry S r → (first_core S.set story.found).ended ≡ None → RunsSoundly S r story
+  pub events : (S : Script) (r : Ran) (story : Story) → RunsSoundly S r story → AllMayKeep (start_of S r) (MayRun (start_of S r)) (first_core S.set story.found) (all_events story)
   pub deletes : (S : Script) (r : Ran) (story : Story) → Went S r story → RunBegins (start_of S r) story.found
       → AllMayKeep (start_of S r) (MayRun (start_of S r)) (first_core S.set story.found) (all_events story) → Deletes S (entry_store S r) r
   pub deletes_ended : (S : Script) (r : Ran) (story : Story) (fault : CoreFault) → Went S r story → (first_core S.set story.found).ended ≡ Some fault → Deletes S (entry_store S r) r
@@ -71,9 +70,8 @@ pub record Laws : Type 0 where
   pub entries : (S : Script) (r : Ran) (how : Option Story) → WentAs S r how → All (IsEntry S r.line) r.journal
   pub dated : (S : Script) (r : Ran) (how : Option Story) → WentAs S r how → AreDated S.commands r.journal
   pub nothing : (S : Script) (r : Ran) (how : Option Story) → IsShape S.set.shape → WentAs S r how → IfSome how (LeavesUnread S r) → r.course ≡ [] → BeganNothing r
-  pub start_good : (S : Script) (r : Ran) (story : Story) → S.set.shape.copies ≡ 1 → Went S r story → IsPast r 0 → (peer : ℕ) → peer < peer_count S.set.shape → starts_good story.found peer ≡ true
-  pub stay_good : (S : Script) (r : Ran) (story : Story) → Went S r story → IsPast r 0 → (m peer : ℕ) → peer < peer_count S.set.shape → starts_good story.found peer ≡ true
-      → good_from false (first_items S.set.shape story.found r.old.moment) m peer ≡ true → note_count peer (below m r.journal) ≡ 0 → NoneFails S r peer → is_good r.course m peer ≡ true
+  pub good : (S : Script) (r : Ran) (story : Story) → Went S r story
+      → (S.set.shape.copies ≡ 1 → (m peer : ℕ) → r.old.moment < m → peer < peer_count S.set.shape → starts_good story.found peer ≡ true → good_from false (first_items S.set.shape story.found r.old.moment) m peer ≡ true) → IsGoodUntold S r
   pub notes_end : (S : Script) (r : Ran) (how : Option Story) → S.set.shape.copies ≡ 1 → WentAs S r how → NotesEnd r
   pub ordered : (S : Script) (r : Ran) (how : Option Story) → client_op (S.commands 0) ≡ None → WentAs S r how → IsOrdered S.commands r.journal
   pub none_good : (S : Script) (r : Ran) (how : Option Story) → WentAs S r how → IsShape S.set.shape → IfSome how (FailsInOpening r) → r.course ≡ [] → NoneGoodCause S r
@@ -88,7 +86,7 @@ pub record Laws : Type 0 where
   pub notes : (S : Script) (r : Ran) (story : Story) → Went S r story → ((peer : ℕ) → peer < peer_count S.set.shape → IsReadAs r story peer)
       → ((disk : ℕ) → DiskRose r (loss_count story disk) disk)
       → ((first_core S.set story.found).ended ≡ None → (disk : ℕ) → DiskRose r (failures true disk (first_core S.set story.found) (all_events story) + loss_count story disk) disk)
-      → ((S.set.shape.copies ≡ 1 → ⊥) → (peer : ℕ) → peer < peer_count S.set.shape → starts_good story.found peer ≡ false → IsAsideAs S r story peer) → NotesCause S r
+      → ((S.set.shape.copies ≡ 1 → ⊥) → (first_core S.set story.found).ended ≡ None → (peer : ℕ) → peer < peer_count S.set.shape → starts_good story.found peer ≡ false → IsAsideAs S r story peer) → NotesCause S r
   pub notes_never : (S : Script) (r : Ran) → NeverOpened r → ((disk : ℕ) → faults_at r.old.disk_faults disk ≤ faults_at r.new.disk_faults disk) → NotesCause S r
   pub stored : StoresBlocks
   -- settles
