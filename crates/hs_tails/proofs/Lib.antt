@@ -1,5 +1,6 @@
 pub mod AlongLemmas
 pub mod AscendLemmas
+pub mod AsideLemmas
 pub mod BeginLemmas
 pub mod BehindLemmas
 pub mod ChosenLemmas

@@ -1,13 +1,14 @@
 //! A run of any number of copies, with what its disks may have.
-ghost use Rattle.std.specs.Prelude.{◌≡◌, ℕ, ◌<◌, Contains, List, None, length};
+ghost use Rattle.std.specs.Prelude.{◌≡◌, ℕ, ◌<◌, Contains, List, None, false, length, true};
 ghost use Rattle.hs_core_words.specs.Records.{HasRecordRoom};
 ghost use Rattle.hs_events.specs.Course.{happened, items_of, steps};
-ghost use Rattle.hs_events.specs.Due.{Events};
-ghost use Rattle.hs_events.specs.Found.{Found, first_core};
+ghost use Rattle.hs_events.specs.Due.{Events, MomentsRise};
+ghost use Rattle.hs_events.specs.Found.{Found, first_core, starts_good};
 ghost use Rattle.hs_events.specs.Taken.{peer_count};
-ghost use Rattle.hs_events.specs.Whole.{Whole, open_whole};
+ghost use Rattle.hs_events.specs.Whole.{Whole, counts, open_whole};
+ghost use Rattle.hs_fold.specs.Shards.Course.{was_good};
 ghost use Rattle.hs_fold.specs.Shards.Images.{AreGoodImages, Image, Stop};
-ghost use Rattle.hs_fold.specs.Shards.Setting.{Numbered};
+ghost use Rattle.hs_fold.specs.Shards.Setting.{Numbered, Setting};
 ghost use Rattle.hs_journal.specs.declared.entry.JournalEntry.{JournalEntry};
 ghost use Rattle.hs_journal.specs.Moments.{below};
 ghost use Rattle.hs_model.specs.declared.course.CourseItem.{CourseItem};
@@ -16,7 +17,7 @@ ghost use Rattle.hs_moments.specs.Machine.{runs, state_at};
 ghost use Rattle.hs_moments.specs.WholeMachine.{whole_machine};
 ghost use Rattle.hs_standing.specs.Reopens.{Reopens};
 ghost use Rattle.hs_standing.specs.Run.{MayRun, RunBegins};
-ghost use Rattle.hs_standing.specs.Standing.{AllMayKeep, AreBegun};
+ghost use Rattle.hs_standing.specs.Standing.{AllMayKeep, AreBegun, IsStateAt};
 ghost use Rattle.hs_standing.specs.Start.{Start};
 ghost use Rattle.hs_tails.specs.Chosen.{MayBeChosen, TailsStand, disks_of, lead_lists};
 ghost use Rattle.hs_tails.specs.Run.{HasGreatestRank, RunsWithOpenTails};
@@ -126,3 +127,34 @@ pub fn images_of_copies_reopen()
 {
     the_lists_of_greatest_rank_reopen();
 }
+
+/// So it is at each moment of a run from its opening on, along any events that may come, at which its core goes on.
+pub fn each_moment_of_copies_reopens()
+    ensures { (start : Start) (stop : Stop) (found : Found) (events : Events) (journal : List JournalEntry)
+        (images : List Image) → RunBegins start found
+        → (first_core start.set found).ended ≡ None → HasRecordRoom (first_core start.set found)
+        → AllMayKeep start (MayRun start) (first_core start.set found) events
+        → ((i : CourseItem) → Contains (items_of (first_core start.set found) events) i
+        → Contains stop.course i) → (left_at start.set found events stop.moment).core.ended ≡ None
+        → ((peer : ℕ) → counts (left_at start.set found events stop.moment) peer ≡ false
+        → (stop.aside peer ≡ true) × (was_good stop.course stop.moment peer ≡ false))
+        → length stop.disks ≡ peer_count start.set.shape
+        → AtMoment whole_machine (IsStateAt (left_at start.set found events stop.moment))
+        start.set.shape stop.course journal stop.moment stop.disks
+        → AreGoodImages start.set.shape stop images →
+        Reopens start stop (below stop.moment journal) images }
+{
+    a_run_goes_on_with_its_tails();
+    images_of_copies_reopen();
+}
+
+/// A disk that does not count at a moment of a run is of a peer that was not good as the core opened, and that was not
+/// good since.
+pub fn a_disk_that_does_not_count_was_not_good()
+    ensures { (set : Setting) (found : Found) (events : Events) (to moment peer : ℕ)
+        → MomentsRise found.opened events to
+        → counts (state_at whole_machine (open_whole set found)
+        (happened (first_core set found) events) moment) peer ≡ false
+        → (starts_good found peer ≡ false)
+        × (was_good (items_of (first_core set found) events) moment peer ≡ false) }
+{}
