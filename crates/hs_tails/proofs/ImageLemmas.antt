@@ -1,5 +1,5 @@
 -- What images that count at a moment amount to, of a store of any number of copies: the list of greatest rank of each shard is taken.
-use Rattle.std.proofs.Common.{◌≡◌, ◌≢◌, ◌⊎◌, ◌∙◌, ap, sym, subst, refl, inl, inr, arith, ℕ, zero, suc, ◌+◌, ◌*◌, ◌-◌, ◌/◌, ◌%◌, ◌<◌, ◌≤◌, not, Bool, true, false, List, [], ◌∷◌, ◌++◌, Option, drop, get_or, length, take, unwrap_or}
+use Rattle.std.proofs.Common.{◌≡◌, ◌≢◌, ◌⊎◌, ◌∙◌, ap, sym, subst, refl, inl, inr, arith, ℕ, zero, suc, ◌+◌, ◌*◌, ◌-◌, ◌/◌, ◌%◌, ◌<◌, ◌≤◌, not, Bool, true, false, List, [], ◌∷◌, ◌++◌, Option, Some, drop, get_or, length, take, unwrap_or}
 use Rattle.std.proofs.lemmas.Bool.{cases_lt, eq-eqb, le-ltb, ne_eqb}
 use Rattle.std.proofs.lemmas.List.{get_or-drop, get_or-take, length-drop, length-take-le}
 use Rattle.std.proofs.lemmas.Nat.{div-add-mod', div-mul-add, mod_below}
@@ -44,9 +44,9 @@ use Rattle.hs_standing.specs.Start.{IsAwaited, Start, events_in, store_after}
 use Rattle.hs_whole_copies.specs.Whole.{IsShardInStep, longest}
 use Rattle.hs_tails.proofs.EntryLemmas.{is_numbered}
 use Rattle.hs_tails.proofs.RankLemmas.{at_most, rank_none}
-use Rattle.hs_tails.specs.Chosen.{lead_lists, with_chosen}
+use Rattle.hs_tails.specs.Chosen.{lead_lists, took_of, with_chosen}
 use Rattle.hs_tails.specs.Run.{HasGreatestRank, IsLeftOf, RunsWithTails}
-use Rattle.hs_tails.specs.Stop.{AreGreatest, ListsReopen, MayStopAside, fronts_of, greatest_lists}
+use Rattle.hs_tails.specs.Stop.{AreGreatest, IsOutOfUse, ListsReopen, MayStopAside, fronts_of, greatest_lists}
 
 -- ---- ranks
 
@@ -286,9 +286,15 @@ module _ (start : Start) (stop : Stop) (journal : List JournalEntry) (peers_are 
       ]
     ]
       where
+        out : q < length images → HasLeft stop images q → IsOutOfUse stop at.core q → IsLeftOf at.core q (left q)
+        out less there (inl apart) = none_of q less (good.aside q apart.0 apart.1)
+        out less there (inr took) =
+            let l : (list : Numbered) × (list_in (image_at images q) ≡ Some list) × IsPrefix list (took_of (lead_lists at.core) (home_of (shape_of at.core.core) q)) = took (image_at images q) there in
+            inr (inr (subst (λ (xs : Numbered). IsPrefix xs (took_of (lead_lists at.core) (home_of (shape_of at.core.core) q))) (sym (log_at images q less ∙ ap (λ (o : Option Numbered). unwrap_or o []) l.1)) l.2))
+
         by_count : q < length images → HasLeft stop images q → (b : Bool) → counts at.core q ≡ b → IsLeftOf at.core q (left q)
-        by_count less there true e = inr (e, prefix_of q less (gives q e there))
-        by_count less there false e = let a = at.tells.sane.aside q e in none_of q less (good.aside q a.0 a.1)
+        by_count less there true e = inr (inl (e, prefix_of q less (gives q e there)))
+        by_count less there false e = out less there (at.tells.sane.aside q e)
 
     -- the good one
     abbrev copy : ℕ

@@ -1,5 +1,5 @@
 //! A run of any number of copies, with what its disks may have.
-ghost use Rattle.std.specs.Prelude.{◌≡◌, ℕ, ◌<◌, Contains, List, None, false, length, true};
+ghost use Rattle.std.specs.Prelude.{◌≡◌, ℕ, ◌<◌, Contains, List, None, false, length};
 ghost use Rattle.hs_core_words.specs.Records.{HasRecordRoom};
 ghost use Rattle.hs_events.specs.Course.{happened, items_of, steps};
 ghost use Rattle.hs_events.specs.Due.{Events, MomentsRise};
@@ -21,7 +21,7 @@ ghost use Rattle.hs_standing.specs.Standing.{AllMayKeep, AreBegun, IsStateAt};
 ghost use Rattle.hs_standing.specs.Start.{Start};
 ghost use Rattle.hs_tails.specs.Chosen.{MayBeChosen, TailsStand, disks_of, lead_lists};
 ghost use Rattle.hs_tails.specs.Run.{HasGreatestRank, RunsWithOpenTails};
-ghost use Rattle.hs_tails.specs.Stop.{AreGreatest, ListsReopen, MayStopAside, MayStopWithTails, fronts_of, greatest_lists, left_at};
+ghost use Rattle.hs_tails.specs.Stop.{AreGreatest, IsOutOfUse, ListsReopen, MayStopAside, MayStopWithTails, fronts_of, greatest_lists, left_at};
 
 use crate::chosen_lists_reopen;
 use hs_answered::{
@@ -137,7 +137,7 @@ pub fn each_moment_of_copies_reopens()
         → ((i : CourseItem) → Contains (items_of (first_core start.set found) events) i
         → Contains stop.course i) → (left_at start.set found events stop.moment).core.ended ≡ None
         → ((peer : ℕ) → counts (left_at start.set found events stop.moment) peer ≡ false
-        → (stop.aside peer ≡ true) × (was_good stop.course stop.moment peer ≡ false))
+        → IsOutOfUse stop (left_at start.set found events stop.moment) peer)
         → length stop.disks ≡ peer_count start.set.shape
         → AtMoment whole_machine (IsStateAt (left_at start.set found events stop.moment))
         start.set.shape stop.course journal stop.moment stop.disks
