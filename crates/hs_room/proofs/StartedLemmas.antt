@@ -65,7 +65,7 @@ module _ (commands : ℕ → Option Command) (nobody : commands 0 ≡ None) wher
       by_line (inl no_line) = let both : None ≡ Some (command.Start peer) = sym nobody ∙ ap commands (sym no_line) ∙ its.asks in absurd (cc both)
       by_line (inr here) = inr (peer, ap commands (sym here) ∙ its.asks)
 
-  starts_or : (line : ℕ) (c : Core) (es : Events) → AllIts commands line c es → (starts_in c es ≡ 0) ⊎ ((p : ℕ) × (commands line ≡ Some (command.Start p)))
+  pub starts_or : (line : ℕ) (c : Core) (es : Events) → AllIts commands line c es → (starts_in c es ≡ 0) ⊎ ((p : ℕ) × (commands line ≡ Some (command.Start p)))
   starts_or line c [] its = inl refl
   starts_or line c (e ∷ es) its = both (event_starts line c e.0 its.0) (starts_or line (step e.0 e.1 c) es its.1)
     where
