@@ -1,5 +1,6 @@
 pub mod AlongLemmas
 pub mod AscendLemmas
+pub mod AsideLemmas
 pub mod BeginLemmas
 pub mod BehindLemmas
 pub mod ChosenLemmas
@@ -11,6 +12,7 @@ pub mod FirstLemmas
 pub mod FrontLemmas
 pub mod GoingLemmas
 pub mod GoneLemmas
+pub mod ImageLemmas
 pub mod KnownLemmas
 pub mod LineLemmas
 pub mod LinedLemmas

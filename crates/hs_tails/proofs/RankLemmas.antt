@@ -1,7 +1,7 @@
 -- Of what a stop may leave of the disks of a shard, the list of greatest rank has all that took effect, and so may be chosen.
 use Rattle.std.proofs.Common.{◌≡◌, ◌∙◌, ap, sym, subst, refl, inl, inr, arith, ℕ, zero, suc, ◌+◌, ◌<◌, ◌≤◌, nat_lt, not, Bool, true, false, if◌then◌else◌, List, [], ◌∷◌, ◌++◌, length, take}
 use Rattle.std.proofs.lemmas.Bool.{cases_lt, eq-eqb, ltb-false}
-use Rattle.std.proofs.lemmas.List.{length-map}
+use Rattle.std.proofs.lemmas.List.{append_assoc, length-map}
 use Rattle.std.proofs.lemmas.List.Elements.{All-head, All-tail}
 use Rattle.std.proofs.lemmas.List.FromFn.{length-enumerate_from}
 use Rattle.std.specs.List.{enumerate_from}
@@ -43,7 +43,7 @@ use Rattle.hs_tails.specs.Run.{HasGreatestRank, IsLeftOf, RunsWithTails, took_in
 -- ---- ranks
 
 -- one that another does not outrank is no less
-at_most : (p y : Rank) → outranks p y ≡ false → IsAtMost p y
+pub at_most : (p y : Rank) → outranks p y ≡ false → IsAtMost p y
 at_most p y e = elim (cases_lt p.view y.view) [
   | inl low ↦ inl low
   | inr high ↦ by_view (nat_lt y.view p.view) refl high
@@ -85,7 +85,7 @@ rank_is : (xs : List (Item Entry)) → ArePlain (map what xs) → rank_of (numbe
 unfolding rank_of
 rank_is xs plain = let same : 0 + length xs ≡ length xs = omega arith in rank_from 0 0 xs plain ∙ ap (λ m. record { view = view_told view_after 0 xs; number = m }) same
 
-rank_none : rank_of [] ≡ record { view = 0; number = 0 }
+pub rank_none : rank_of [] ≡ record { view = 0; number = 0 }
 unfolding rank_of
 rank_none = refl
 
@@ -187,36 +187,36 @@ module _ (start : Start) (c : Whole) (r : RunsWithTails start c) (g : ℕ) (low 
 
   -- ---- of a disk that counts
 
-  module _ (begins : IsPrefix (left y) (reach c y)) where
+  module _ (q : ℕ) (own : IsOf (shape_of c.core) g q) (begins : IsPrefix (left y) (reach c q)) where
     abbrev hs : List (Item Entry)
-    hs = take (length (left y)) (longest y c.core (r.machines g))
+    hs = take (length (left y)) (longest q c.core (r.machines g))
 
-    prefix : IsPrefix (left y) (numbered (longest y c.core (r.machines g)))
-    prefix = subst (λ (xs : Numbered). IsPrefix (left y) xs) (k.reaches y h.home) begins
+    prefix : IsPrefix (left y) (numbered (longest q c.core (r.machines g)))
+    prefix = subst (λ (xs : Numbered). IsPrefix (left y) xs) (k.reaches q own) begins
 
-    hs_are : left y ≡ numbered (take (length (left y)) (longest y c.core (r.machines g)))
-    hs_are = prefix_takes (left y) (longest y c.core (r.machines g)) prefix
+    hs_are : left y ≡ numbered (take (length (left y)) (longest q c.core (r.machines g)))
+    hs_are = prefix_takes (left y) (longest q c.core (r.machines g)) prefix
 
-    rank_left : rank_of (left y) ≡ rank_told view_after (take (length (left y)) (longest y c.core (r.machines g)))
-    rank_left = ap (λ (xs : Numbered). rank_of xs) hs_are ∙ rank_is (take (length (left y)) (longest y c.core (r.machines g))) (plain_front (length (left y)) (longest y c.core (r.machines g)) (k.plain y h.home))
+    rank_left : rank_of (left y) ≡ rank_told view_after (take (length (left y)) (longest q c.core (r.machines g)))
+    rank_left = ap (λ (xs : Numbered). rank_of xs) hs_are ∙ rank_is (take (length (left y)) (longest q c.core (r.machines g))) (plain_front (length (left y)) (longest q c.core (r.machines g)) (k.plain q own))
 
-    all_in : IsFront (r.machines g).took (take (length (left y)) (longest y c.core (r.machines g)))
+    all_in : IsFront (r.machines g).took (take (length (left y)) (longest q c.core (r.machines g)))
     all_in =
-        let m = longest_front g y c.core (r.machines g) k.in_step h.home in
-        let within : IsFront (take (length (left y)) (longest y c.core (r.machines g))) (machine_reach ((r.machines g).peers m.0)) =
-        front_trans (take (length (left y)) (longest y c.core (r.machines g))) (longest y c.core (r.machines g)) (machine_reach ((r.machines g).peers m.0)) (taken_front (length (left y)) (longest y c.core (r.machines g))) m.1 in
-        let ranks : IsAtMost (rank_told view_after (take (length (left h.good)) (longest h.good c.core (r.machines g)))) (rank_told view_after (take (length (left y)) (longest y c.core (r.machines g)))) =
-        subst (λ a. IsAtMost a (rank_told view_after (take (length (left y)) (longest y c.core (r.machines g))))) rank_good (subst (λ a. IsAtMost (rank_of (left h.good)) a) rank_left at_least) in
+        let m = longest_front g q c.core (r.machines g) k.in_step own in
+        let within : IsFront (take (length (left y)) (longest q c.core (r.machines g))) (machine_reach ((r.machines g).peers m.0)) =
+        front_trans (take (length (left y)) (longest q c.core (r.machines g))) (longest q c.core (r.machines g)) (machine_reach ((r.machines g).peers m.0)) (taken_front (length (left y)) (longest q c.core (r.machines g))) m.1 in
+        let ranks : IsAtMost (rank_told view_after (take (length (left h.good)) (longest h.good c.core (r.machines g)))) (rank_told view_after (take (length (left y)) (longest q c.core (r.machines g)))) =
+        subst (λ a. IsAtMost a (rank_told view_after (take (length (left y)) (longest q c.core (r.machines g))))) rank_good (subst (λ a. IsAtMost (rank_of (left h.good)) a) rank_left at_least) in
         let n = some in
         let long = fs_long in
-        front_trans (r.machines g).took (take (length (left h.good)) (longest h.good c.core (r.machines g))) (take (length (left y)) (longest y c.core (r.machines g))) took_left
+        front_trans (r.machines g).took (take (length (left h.good)) (longest h.good c.core (r.machines g))) (take (length (left y)) (longest q c.core (r.machines g))) took_left
         (told_lineage view_after st.stands.begun st.stands.begun_at (r.machines g) st.stands.faithful st.stands.told h.good m.0
-        (take (length (left h.good)) (longest h.good c.core (r.machines g))) (take (length (left y)) (longest y c.core (r.machines g))) stage fs_front (omega (arith, n, long)) within ranks)
+        (take (length (left h.good)) (longest h.good c.core (r.machines g))) (take (length (left y)) (longest q c.core (r.machines g))) stage fs_front (omega (arith, n, long)) within ranks)
 
     has : IsPrefix (took_of (lead_lists c) g) (left y)
     has =
         subst (λ (xs : Numbered). IsPrefix xs (left y)) (sym (took_is start c r g low))
-        (subst (λ (xs : Numbered). IsPrefix (took_in r.machines g) xs) (sym hs_are) (front_prefix (r.machines g).took (take (length (left y)) (longest y c.core (r.machines g))) all_in))
+        (subst (λ (xs : Numbered). IsPrefix (took_in r.machines g) xs) (sym hs_are) (front_prefix (r.machines g).took (take (length (left y)) (longest q c.core (r.machines g))) all_in))
 
   -- ---- of one that counts as blank: nothing took effect, and the good peer's is as good
 
@@ -239,6 +239,17 @@ module _ (start : Start) (c : Whole) (r : RunsWithTails start c) (g : ℕ) (low 
         let count = numbered_long (r.machines g).took in
         took_is start c r g low ∙ no_entries (took_in r.machines g) (omega (arith, n, long, count))
 
+  -- ---- of a front of what took effect: the good peer's begins with it
+
+  prefix_on : (xs ys zs : Numbered) → IsPrefix xs ys → IsPrefix ys zs → IsPrefix xs zs
+  prefix_on xs ys zs a b = (a.0 ++ b.0, b.1 ∙ ap (λ (ws : Numbered). ws ++ b.0) a.1 ∙ append_assoc xs a.0 b.0)
+
+  before_good : IsPrefix (left y) (took_of (lead_lists c) g) → IsPrefix (left y) (reach c h.good)
+  before_good front =
+      let took : IsPrefix (took_in r.machines g) (left h.good) =
+      subst (λ (xs : Numbered). IsPrefix (took_in r.machines g) xs) (sym fs_are) (front_prefix (r.machines g).took (take (length (left h.good)) (longest h.good c.core (r.machines g))) took_left) in
+      prefix_on (left y) (left h.good) (reach c h.good) (prefix_on (left y) (took_in r.machines g) (left h.good) (subst (λ (xs : Numbered). IsPrefix (left y) xs) (took_is start c r g low) front) took) h.good_list
+
   pub may_be_chosen : MayBeChosen start.set.shape (disks_of c) (lead_lists c) g (left y)
   may_be_chosen = by_left (h.each y h.home)
     where
@@ -250,10 +261,19 @@ module _ (start : Start) (c : Whole) (r : RunsWithTails start c) (g : ℕ) (low 
         begins = (reach c h.good, ap (λ (xs : Numbered). xs ++ reach c h.good) (sym none));
         has = ([], none ∙ ap (λ (xs : Numbered). xs ++ []) (sym (none_took none)));
       }
-      by_left (inr some_list) = record {
+      by_left (inr (inl some_list)) = record {
         peer = y;
         home = home_is y h.home;
         counts = some_list.0;
         begins = some_list.1;
-        has = has some_list.1;
+        has = has y h.home some_list.1;
       }
+      by_left (inr (inr front)) =
+          let begins : IsPrefix (left y) (reach c h.good) = before_good (subst (λ n. IsPrefix (left y) (took_of (lead_lists c) n)) h.home front) in
+          record {
+            peer = h.good;
+            home = home_is h.good h.good_home;
+            counts = counted;
+            begins = begins;
+            has = has h.good h.good_home begins;
+          }

@@ -16,12 +16,13 @@ use Rattle.hs_fold.specs.Shards.Setting.{Numbered, shard_in}
 use Rattle.hs_fold.specs.Shards.Sound.{HasRisingViews}
 use Rattle.hs_laws.specs.Valid.{IsValid}
 use Rattle.hs_limits.specs.declared.limits.PeerStatus.TheVariants.{Good}
+use Rattle.hs_members.specs.Members.{home_of}
 use Rattle.hs_standing.specs.Held.{GivesAddresses}
 use Rattle.hs_standing.specs.Run.{RunStands}
 use Rattle.hs_standing.specs.Start.{Start}
 use Rattle.hs_told.specs.InTurn.{IsInTurn}
 use Rattle.hs_whole_copies.specs.Whole.{IsWholeInStep}
-use Rattle.hs_tails.specs.Chosen.{tail_behind}
+use Rattle.hs_tails.specs.Chosen.{lead_lists, tail_behind, took_of}
 use Rattle.hs_tails.specs.Lines.{AreParked, AreReached}
 use Rattle.hs_tails.specs.Tails.{AreAscending, HasOpenLines, RestsIn}
 
@@ -73,9 +74,9 @@ pub record RunsWithOpenTails (start : Start) (c : Whole) : Type 0 where
 
 -- ---- the list of greatest rank
 
--- by peer what a stop may leave of its disk: nothing, or a front of what a disk may have that counts
+-- by peer what a stop may leave of its disk: nothing, or a front of what a disk may have that counts, or a front of what took effect of its shard
 abbrev pub IsLeftOf : Whole → ℕ → Numbered → Type 0
-IsLeftOf c peer list = (list ≡ []) ⊎ ((counts c peer ≡ true) × IsPrefix list (reach c peer))
+IsLeftOf c peer list = (list ≡ []) ⊎ ((counts c peer ≡ true) × IsPrefix list (reach c peer)) ⊎ IsPrefix list (took_of (lead_lists c) (home_of (shape_of c.core) peer))
 
 -- the list of a peer of a shard is of greatest rank among what a stop may leave of the disks of its peers; and a good one of them has all that it has sealed
 pub record HasGreatestRank (c : Whole) (shard : ℕ) (left : ℕ → Numbered) (peer : ℕ) : Type 0 where

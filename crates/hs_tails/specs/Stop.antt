@@ -1,24 +1,31 @@
 -- Where a run of any number of copies stops: at what the lists reopen that are taken of its disks.
-use Rattle.std.specs.Prelude.{◌≡◌, ◌≢◌, ℕ, ◌<◌, List, All, AllPairs}
-use Rattle.hs_core_words.specs.Looking.{front_of}
+use Rattle.std.specs.Prelude.{◌≡◌, ◌≢◌, ℕ, ◌<◌, ◌⊎◌, false, true, List, Some, All, AllPairs}
+use Rattle.hs_core_words.specs.Looking.{front_of, shape_of}
 use Rattle.hs_events.specs.Course.{happened}
 use Rattle.hs_events.specs.Due.{Events}
 use Rattle.hs_events.specs.Found.{Found, first_core}
-use Rattle.hs_events.specs.Whole.{Whole, open_whole}
+use Rattle.hs_events.specs.Whole.{Whole, counts, open_whole}
+use Rattle.hs_entry.specs.Entries.{IsPrefix}
+use Rattle.hs_fold.specs.Images.{IsLeft}
 use Rattle.hs_fold.specs.Runs.Opened.{catalogues, store_of}
+use Rattle.hs_fold.specs.Shards.Course.{was_good}
 use Rattle.hs_fold.specs.Shards.Happening.{happen_all, happenings}
 use Rattle.hs_fold.specs.Shards.Images.{Stop}
 use Rattle.hs_fold.specs.Shards.Outstanding.{MayPend, pending}
 use Rattle.hs_fold.specs.Shards.Pending.{AreOneRun, changing_lines}
 use Rattle.hs_fold.specs.Shards.Setting.{Numbered, Setting}
 use Rattle.hs_journal.specs.declared.entry.JournalEntry.{JournalEntry}
+use Rattle.hs_members.specs.Members.{home_of}
 use Rattle.hs_model.specs.Store.{reborn}
 use Rattle.hs_moments.specs.Machine.{state_at}
 use Rattle.hs_moments.specs.WholeMachine.{whole_machine}
+use Rattle.hs_ports.specs.declared.disk.Side.{Side}
+use Rattle.hs_ports.specs.Moments.{disk_at}
+use Rattle.hs_side.specs.Current.{list_in}
 use Rattle.hs_sound.specs.Stay.{AreSoundAlong}
 use Rattle.hs_standing.specs.Standing.{AreBegun}
 use Rattle.hs_standing.specs.Start.{IsAwaited, Start, events_in, store_after}
-use Rattle.hs_tails.specs.Chosen.{lead_lists, lists_chosen}
+use Rattle.hs_tails.specs.Chosen.{lead_lists, lists_chosen, took_of}
 use Rattle.hs_tails.specs.Run.{HasGreatestRank, RunsWithOpenTails}
 
 -- where this was answered, and so much took effect of each shard: the lists open at the store behind it and then what is pending in them, all of it one legal run; the next run may
@@ -34,6 +41,21 @@ pub record ListsReopen (start : Start) (stop : Stop) (journal : List JournalEntr
 pub record MayStopWithTails (start : Start) (stop : Stop) (c : Whole) : Type 0 where
   pub runs : RunsWithOpenTails start c
   pub begun : AreBegun start stop c.core
+
+-- whatever a stop leaves of a peer's disk has a front of what took effect of its shard
+abbrev pub LeavesWhatTook : Stop → Whole → ℕ → Type 0
+LeavesWhatTook stop c peer =
+    (image : Side → List ℕ) → IsLeft (disk_at stop.disks peer) stop.moment image
+    → (list : Numbered) × (list_in image ≡ Some list) × IsPrefix list (took_of (lead_lists c) (home_of (shape_of c.core) peer))
+
+-- opening set a peer aside, and it was not good since; or its disk leaves nothing but what took effect
+abbrev pub IsOutOfUse : Stop → Whole → ℕ → Type 0
+IsOutOfUse stop c peer = ((stop.aside peer ≡ true) × (was_good stop.course stop.moment peer ≡ false)) ⊎ LeavesWhatTook stop c peer
+
+-- and each peer whose disk doesn't count is out of use
+pub record MayStopAside (start : Start) (stop : Stop) (c : Whole) : Type 0 where
+  pub may : MayStopWithTails start stop c
+  pub aside : (peer : ℕ) → counts c peer ≡ false → IsOutOfUse stop c peer
 
 -- by shard the peer whose list is of greatest rank, of what a stop may leave of disks
 abbrev pub AreGreatest : Start → Whole → (ℕ → Numbered) → (ℕ → ℕ) → Type 0

@@ -1,21 +1,27 @@
 //! A run of any number of copies, with what its disks may have.
-ghost use Rattle.std.specs.Prelude.{◌≡◌, ℕ, ◌<◌, Contains, None};
+ghost use Rattle.std.specs.Prelude.{◌≡◌, ℕ, ◌<◌, Contains, List, None, false, length};
 ghost use Rattle.hs_core_words.specs.Records.{HasRecordRoom};
 ghost use Rattle.hs_events.specs.Course.{happened, items_of, steps};
-ghost use Rattle.hs_events.specs.Due.{Events};
-ghost use Rattle.hs_events.specs.Found.{Found, first_core};
-ghost use Rattle.hs_events.specs.Whole.{Whole, open_whole};
-ghost use Rattle.hs_fold.specs.Shards.Images.{Stop};
-ghost use Rattle.hs_fold.specs.Shards.Setting.{Numbered};
+ghost use Rattle.hs_events.specs.Due.{Events, MomentsRise};
+ghost use Rattle.hs_events.specs.Found.{Found, first_core, starts_good};
+ghost use Rattle.hs_events.specs.Taken.{peer_count};
+ghost use Rattle.hs_events.specs.Whole.{Whole, counts, open_whole};
+ghost use Rattle.hs_fold.specs.Shards.Course.{was_good};
+ghost use Rattle.hs_fold.specs.Shards.Images.{AreGoodImages, Image, Stop};
+ghost use Rattle.hs_fold.specs.Shards.Setting.{Numbered, Setting};
+ghost use Rattle.hs_journal.specs.declared.entry.JournalEntry.{JournalEntry};
+ghost use Rattle.hs_journal.specs.Moments.{below};
 ghost use Rattle.hs_model.specs.declared.course.CourseItem.{CourseItem};
+ghost use Rattle.hs_moments.specs.Joint.{AtMoment};
 ghost use Rattle.hs_moments.specs.Machine.{runs, state_at};
 ghost use Rattle.hs_moments.specs.WholeMachine.{whole_machine};
+ghost use Rattle.hs_standing.specs.Reopens.{Reopens};
 ghost use Rattle.hs_standing.specs.Run.{MayRun, RunBegins};
-ghost use Rattle.hs_standing.specs.Standing.{AllMayKeep, AreBegun};
+ghost use Rattle.hs_standing.specs.Standing.{AllMayKeep, AreBegun, IsStateAt};
 ghost use Rattle.hs_standing.specs.Start.{Start};
 ghost use Rattle.hs_tails.specs.Chosen.{MayBeChosen, TailsStand, disks_of, lead_lists};
 ghost use Rattle.hs_tails.specs.Run.{HasGreatestRank, RunsWithOpenTails};
-ghost use Rattle.hs_tails.specs.Stop.{AreGreatest, ListsReopen, MayStopWithTails, fronts_of, greatest_lists, left_at};
+ghost use Rattle.hs_tails.specs.Stop.{AreGreatest, IsOutOfUse, ListsReopen, MayStopAside, MayStopWithTails, fronts_of, greatest_lists, left_at};
 
 use crate::chosen_lists_reopen;
 use hs_answered::{
@@ -107,3 +113,48 @@ pub fn the_lists_of_greatest_rank_reopen()
     a_run_goes_on_with_its_tails();
     chosen_lists_reopen();
 }
+
+/// So at a moment of a run of any number of copies whatever images count reopen, where each shard keeps a good peer:
+/// they open at the store behind what was answered below the moment and then what is pending, all of it one legal run;
+/// they are sound; what is pending is of lines that were begun and not answered, or of no line, and of no line twice.
+pub fn images_of_copies_reopen()
+    ensures { (start : Start) (stop : Stop) (journal : List JournalEntry) (images : List Image)
+        → length stop.disks ≡ peer_count start.set.shape
+        → AtMoment whole_machine (MayStopAside start stop) start.set.shape
+        stop.course journal stop.moment stop.disks
+        → AreGoodImages start.set.shape stop images →
+        Reopens start stop (below stop.moment journal) images }
+{
+    the_lists_of_greatest_rank_reopen();
+}
+
+/// So it is at each moment of a run from its opening on, along any events that may come, at which its core goes on.
+pub fn each_moment_of_copies_reopens()
+    ensures { (start : Start) (stop : Stop) (found : Found) (events : Events) (journal : List JournalEntry)
+        (images : List Image) → RunBegins start found
+        → (first_core start.set found).ended ≡ None → HasRecordRoom (first_core start.set found)
+        → AllMayKeep start (MayRun start) (first_core start.set found) events
+        → ((i : CourseItem) → Contains (items_of (first_core start.set found) events) i
+        → Contains stop.course i) → (left_at start.set found events stop.moment).core.ended ≡ None
+        → ((peer : ℕ) → counts (left_at start.set found events stop.moment) peer ≡ false
+        → IsOutOfUse stop (left_at start.set found events stop.moment) peer)
+        → length stop.disks ≡ peer_count start.set.shape
+        → AtMoment whole_machine (IsStateAt (left_at start.set found events stop.moment))
+        start.set.shape stop.course journal stop.moment stop.disks
+        → AreGoodImages start.set.shape stop images →
+        Reopens start stop (below stop.moment journal) images }
+{
+    a_run_goes_on_with_its_tails();
+    images_of_copies_reopen();
+}
+
+/// A disk that does not count at a moment of a run is of a peer that was not good as the core opened, and that was not
+/// good since.
+pub fn a_disk_that_does_not_count_was_not_good()
+    ensures { (set : Setting) (found : Found) (events : Events) (to moment peer : ℕ)
+        → MomentsRise found.opened events to
+        → counts (state_at whole_machine (open_whole set found)
+        (happened (first_core set found) events) moment) peer ≡ false
+        → (starts_good found peer ≡ false)
+        × (was_good (items_of (first_core set found) events) moment peer ≡ false) }
+{}
