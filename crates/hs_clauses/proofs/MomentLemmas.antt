@@ -10,7 +10,7 @@ use Rattle.hs_clauses.proofs.NoteLemmas.{opens_noted, opens_silent}
 use Rattle.hs_standing.proofs.FirstRoomLemmas.{front_first, opens}
 use Rattle.hs_clauses.proofs.TakenLemmas.{peers_are}
 use Rattle.hs_clauses.specs.Shown.{HaveOneList, IsShown}
-use Rattle.hs_cluster.proofs.OpeningMoves.{all_good}
+use Rattle.hs_moments.proofs.OpeningLemmas.{all_good}
 use Rattle.hs_core_words.specs.Looking.{front_of, status_of}
 use Rattle.hs_core_words.specs.State.{Core}
 use Rattle.hs_entry.specs.Entries.{rank_of}

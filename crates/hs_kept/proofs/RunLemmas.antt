@@ -10,7 +10,7 @@ use Rattle.hs_clauses.proofs.ListLemmas.{none_aside}
 use Rattle.hs_clauses.proofs.NoteLemmas.{notes_answered, notes_legal}
 use Rattle.hs_clauses.proofs.ShownLemmas.{shown_of, unopened_of}
 use Rattle.hs_clauses.specs.Shown.{IsShown, IsShownRun, OnDisks, ShownAs}
-use Rattle.hs_cluster.proofs.OpeningMoves.{all_good}
+use Rattle.hs_moments.proofs.OpeningLemmas.{all_good}
 use Rattle.hs_cluster.specs.Disks.{DiskSeen, stands_of}
 use Rattle.hs_desk.specs.declared.fault.CoreFault.{CoreFault}
 use Rattle.hs_events.specs.Found.{first_core}

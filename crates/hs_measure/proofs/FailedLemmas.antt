@@ -3,7 +3,7 @@ use Rattle.std.proofs.Common.{◌≡◌, sym, ap, subst, refl, ℕ, ◌+◌, ◌
 use Rattle.std.specs.Prelude.{IfSome, flat_map, true}
 use Rattle.hs_clauses.proofs.ListLemmas.{opened_is}
 use Rattle.hs_clauses.specs.Shown.{IsShown, OnDisks}
-use Rattle.hs_cluster.proofs.OpeningMoves.{all_good}
+use Rattle.hs_moments.proofs.OpeningLemmas.{all_good}
 use Rattle.hs_cluster.specs.Kept.{AreStored}
 use Rattle.hs_desk.specs.declared.fault.CoreFault.{CoreFault}
 use Rattle.hs_events.specs.Due.{Events}

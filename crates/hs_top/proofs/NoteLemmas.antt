@@ -5,7 +5,7 @@ use Rattle.std.specs.Prelude.{IsSome, slice_index_or, unwrap_or}
 use Rattle.hs_clauses.proofs.ListLemmas.{log_counts, opened_is}
 use Rattle.hs_clauses.proofs.ReadLemmas.{from_empty, read_from_one}
 use Rattle.hs_clauses.specs.Shown.{IsShown, OnDisks}
-use Rattle.hs_cluster.proofs.OpeningMoves.{all_good}
+use Rattle.hs_moments.proofs.OpeningLemmas.{all_good}
 use Rattle.hs_cluster.specs.Kept.{AreStored}
 use Rattle.hs_events.specs.Found.{first_core, opened_list, starts_good}
 use Rattle.hs_events.specs.Reports.{failures}
