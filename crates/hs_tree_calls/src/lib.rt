@@ -1,15 +1,7 @@
-//! A file is stored in the plain store, and fetched from it; a root is copied from one plain store into another.
+//! A file is stored in the plain store, and fetched from it.
 #![tactic(auto)]
 
-#[cfg(test)]
 mod answer;
 #[cfg(test)]
-mod copies;
-#[cfg(test)]
-mod count;
-#[cfg(test)]
 mod files;
-#[cfg(test)]
-mod held;
-#[cfg(test)]
 mod plain;

@@ -3,15 +3,12 @@ ghost use Rattle.std.specs.Prelude.{◌≡◌, ◌<◌, ◌+◌, ◌∷◌, ◌+
 ghost use Rattle.hs_asking.specs.Telling.{MayBeTold};
 
 use crate::answer::answer;
-use crate::count::Count;
-use crate::held::{Given, held_by, note_answer};
 use hs_asking::Asker;
 use hs_desk::CoreFault;
 use hs_limits::{Held, Limits, ListOf, Name};
 use hs_model::{Op, Reply};
 use hs_plain::MemoryStore;
 use std::alloc::Global;
-use std::collections::BTreeMap;
 use std::marker::Model;
 use std::snapshot::Snapshot;
 
@@ -22,10 +19,6 @@ pub(crate) struct PlainAsker {
     asked: Vec<Snapshot<Op>>,
     told: Vec<Snapshot<Reply>>,
     ended: Option<CoreFault>,
-    count: Count,
-    given: Given,
-    session: Name,
-    alloc: Global,
 }
 
 impl Model for PlainAsker {
@@ -61,10 +54,6 @@ impl PlainAsker {
             asked,
             told,
             ended: None,
-            count: Count::none(),
-            given: BTreeMap::new(alloc),
-            session: our_name(alloc)?,
-            alloc,
         })
     }
 
@@ -77,29 +66,15 @@ impl PlainAsker {
             asked: _,
             told: _,
             ended: _,
-            count: _,
-            given: _,
-            session,
-            alloc: _,
         } = self;
-        match store.judge(Limits::greatest(), Op::Close { session }) {
-            Ok(_) => PlainAsker::new(alloc, store),
-            Err(_) => Err(CoreFault::NoMemory),
+        let bytes = ListOf::from_vec(Vec::from_slice(alloc, b"a")?);
+        if let Some(session) = Name::from_list(bytes) {
+            match store.judge(Limits::greatest(), Op::Close { session }) {
+                Ok(_) => {}
+                Err(_) => return Err(CoreFault::NoMemory),
+            }
         }
-    }
-
-    /// How often it was asked for what.
-    pub(crate) fn count(&self) -> Count {
-        self.count
-    }
-}
-
-/// The name `a`.
-fn our_name(alloc: Global) -> Result<Name, CoreFault> {
-    let bytes = ListOf::from_vec(Vec::from_slice(alloc, b"a")?);
-    match Name::from_list(bytes) {
-        Some(name) => Ok(name),
-        None => Err(CoreFault::NoMemory),
+        PlainAsker::new(alloc, store)
     }
 }
 
@@ -138,23 +113,15 @@ impl Asker for PlainAsker {
     ghost shows = { λ a. shows_of a };
 
     fn ask(&mut self, op: Op) -> Result<Reply, CoreFault> {
-        self.count.add(&op);
         let told = say(&mut self.store, &mut self.asked, &mut self.told, op);
-        note_answer(
-            self.alloc,
-            &mut self.store,
-            &self.session,
-            &told,
-            &mut self.given,
-        );
         if let Err(fault) = told {
             self.ended = Some(fault);
         }
         told
     }
 
-    fn held(&self, _session: &Name, handle: u32) -> Option<Held> {
-        held_by(&self.given, handle)
+    fn held(&self, _session: &Name, _handle: u32) -> Option<Held> {
+        None
     }
 
     fn known(&self) {}
