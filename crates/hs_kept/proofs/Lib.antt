@@ -1,7 +1,15 @@
+pub mod AwaitLemmas
 pub mod CopiedLemmas
 pub mod FilesLemmas
 pub mod HeldLemmas
 pub mod LawLemmas
+pub mod MomentLemmas
+pub mod NobodyLemmas
+pub mod PendingLemmas
 pub mod RunLemmas
+pub mod RunningLemmas
+pub mod SaidLemmas
+pub mod SourceLemmas
 pub mod StatusLemmas
+pub mod SurvivesLemmas
 pub mod ToldLemmas
