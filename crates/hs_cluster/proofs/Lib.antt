@@ -23,6 +23,7 @@ pub mod PeerLogLemmas
 pub mod PeerReportLemmas
 pub mod PeerShowLemmas
 pub mod ReadLemmas
+pub mod RecallLemmas
 pub mod ReportLemmas
 pub mod RoomLemmas
 pub mod RunLemmas

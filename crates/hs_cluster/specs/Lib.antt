@@ -1,5 +1,6 @@
 pub mod Begins
 pub mod Calls
+pub mod Cached
 pub mod Calm
 pub mod Counts
 pub mod Disks

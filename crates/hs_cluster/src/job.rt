@@ -1,5 +1,5 @@
 //! The first job of a peer.
-ghost use Rattle.std.specs.Prelude.{◌≡◌, ◌*◌, ◌+◌, ◌≤◌, ℕ, None, Option, Some, length, map, true, false, IfOk, IsOkUnless, IsSome, OnErr, OnOk};
+ghost use Rattle.std.specs.Prelude.{◌≡◌, ◌≢◌, ◌*◌, ◌+◌, ◌≤◌, ℕ, None, Option, Some, length, map, true, false, IfOk, IsOkUnless, IsSome, OnErr, OnOk};
 ghost use Rattle.hs_cluster.specs.declared.fault.ClusterFault.TheVariants.{NoMemory};
 ghost use Rattle.hs_cluster.specs.Counts.{AllStandUntold, HasAllPaid, HasPaid, IsCopyPaid, IsPaid, NoneFalls, StandsUntold};
 ghost use Rattle.hs_cluster.specs.Disks.{AreReady, IsSlotReady, log_at, seen_as, seen_at, stands_of};
@@ -77,6 +77,12 @@ pub(crate) fn do_job<D: Disk>(
         (map (λ disk. seen_as (D.size disk) (D.stands disk) (D.faults disk)) disks.old)
         logs.new.items
         (map (λ disk. seen_as (D.size disk) (D.stands disk) (D.faults disk)) disks.new) p }
+    // But for an emptying that of each log does.
+    ensures keeps { D.tells → IfOk result (λ told. told ≢ done.Emptied → (p : ℕ)
+        → GoesOn logs.old.items
+        (map (λ disk. seen_as (D.size disk) (D.stands disk) (D.faults disk)) disks.old)
+        logs.new.items
+        (map (λ disk. seen_as (D.size disk) (D.stands disk) (D.faults disk)) disks.new) p) }
     // A stop leaves no header on the disk of a peer but its own, where it left none before.
     ensures headed { D.tells → (p : ℕ)
         → IsHeadedAt (own_header core.now.members.shape p) watch.old logs.old.items
@@ -329,6 +335,7 @@ fn do_reset<D: Disk>(
           new = D.stands disk.new;
         }) result }
     ensures fails { IfOk result (FailsAlone peer) }
+    ensures gone { IfOk result (λ told. told ≢ done.Emptied → slot.new ≡ None) }
     ensures goes_on { D.tells → is_joining (status_of peer core.now) ≡ false
         → SlotGoesOn slot.old slot.new (D.stands disk.old) (D.stands disk.new) }
     ensures headed { D.tells

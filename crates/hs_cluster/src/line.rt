@@ -1,5 +1,6 @@
 //! One line of a script.
 ghost use Rattle.std.specs.Prelude.{◌≡◌, ◌≢◌, ◌*◌, ◌<◌, ◌≤◌, ⊤, ℕ, Err, List, None, Some, false, length, map, true, IfSome, OnOk};
+ghost use Rattle.hs_cluster.specs.Cached.{AreCached};
 ghost use Rattle.hs_cluster.specs.Calls.{RunsLine, of_core};
 ghost use Rattle.hs_events.specs.Commands.{is_served, uses_disks};
 ghost use Rattle.hs_cluster.specs.Disks.{AreReady, DiskSeen, log_at, seen_as};
@@ -38,6 +39,8 @@ impl Cluster {
         requires count { length disks.old
             ≡ self.old.core.members.shape.shards * self.old.core.members.shape.copies }
         requires ready { AreReady D.tells self.old.logs
+            (map (λ disk. seen_as (D.size disk) (D.stands disk) (D.faults disk)) disks.old) }
+        requires cached { AreCached D.tells self.old.cache self.old.logs
             (map (λ disk. seen_as (D.size disk) (D.stands disk) (D.faults disk)) disks.old) }
 
         // The events that are due for the line, and no others; of a line that asks to reclaim
@@ -83,6 +86,8 @@ impl Cluster {
             → OnOk result (is_joining (status_of peer self.new.core) ≡ false) }
 
         ensures ready { OnOk result (AreReady D.tells self.new.logs
+            (map (λ disk. seen_as (D.size disk) (D.stands disk) (D.faults disk)) disks.new)) }
+        ensures cached { OnOk result (AreCached D.tells self.new.cache self.new.logs
             (map (λ disk. seen_as (D.size disk) (D.stands disk) (D.faults disk)) disks.new)) }
         ensures count { length disks.new ≡ length disks.old }
         ensures shape { self.new.core.members.shape ≡ self.old.core.members.shape }
@@ -131,6 +136,7 @@ impl Cluster {
               left = disks;
             }) result) }
         ensures logs { self.new.logs ≡ self.old.logs }
+        ensures cache { self.new.cache ≡ self.old.cache }
         ensures joins { (p : ℕ) → is_joining (status_of p self.old.core) ≡ false
             → OnOk result (is_joining (status_of p self.new.core) ≡ false) }
         ensures shape { self.new.core.members.shape ≡ self.old.core.members.shape }
@@ -156,6 +162,7 @@ impl Cluster {
             }) result) }
         ensures logs { (p : ℕ) (keeping : Keeping) → log_at self.new.logs p ≡ Some keeping
             → log_at self.old.logs p ≡ Some keeping }
+        ensures cache { self.new.cache ≡ self.old.cache }
         ensures own { OnOk result (log_at self.new.logs peer ≡ None) }
         ensures others { (p : ℕ) → p ≢ peer
             → log_at self.new.logs p ≡ log_at self.old.logs p }
@@ -174,6 +181,7 @@ impl Cluster {
     fn put_out(&mut self, peer: u8)
         ensures core { self.new.core ≡ self.old.core }
         ensures course { self.new.course ≡ self.old.course }
+        ensures cache { self.new.cache ≡ self.old.cache }
         ensures own { log_at self.new.logs peer ≡ None }
         ensures others { (p : ℕ) → p ≢ peer
             → log_at self.new.logs p ≡ log_at self.old.logs p }
@@ -201,6 +209,8 @@ impl Cluster {
             ≡ self.old.core.members.shape.shards * self.old.core.members.shape.copies }
         requires ready { AreReady D.tells self.old.logs
             (map (λ disk. seen_as (D.size disk) (D.stands disk) (D.faults disk)) disks.old) }
+        requires cached { AreCached D.tells self.old.cache self.old.logs
+            (map (λ disk. seen_as (D.size disk) (D.stands disk) (D.faults disk)) disks.old) }
         ensures runs { (name : List ℕ → Address) → RunsLine name line (command.Turn peer)
             watch.old watch.new self.old self.new result
             (Shows D.tells (record {
@@ -222,6 +232,8 @@ impl Cluster {
         ensures joins { (p : ℕ) → is_joining (status_of p self.old.core) ≡ false
             → OnOk result (is_joining (status_of p self.new.core) ≡ false) }
         ensures ready { OnOk result (AreReady D.tells self.new.logs
+            (map (λ disk. seen_as (D.size disk) (D.stands disk) (D.faults disk)) disks.new)) }
+        ensures cached { OnOk result (AreCached D.tells self.new.cache self.new.logs
             (map (λ disk. seen_as (D.size disk) (D.stands disk) (D.faults disk)) disks.new)) }
         ensures count { length disks.new ≡ length disks.old }
         ensures shape { self.new.core.members.shape ≡ self.old.core.members.shape }

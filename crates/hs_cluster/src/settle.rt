@@ -2,6 +2,7 @@
 ghost use Rattle.std.specs.List.{list_any};
 ghost use Rattle.std.specs.Prelude.{◌≡◌, ◌*◌, ◌<◌, ◌≤◌, ℕ, None, false, length, map, nat_lt, slice_index_or, IfSome, OnOk};
 ghost use Rattle.hs_events.specs.declared.due.Due.TheVariants.{Reporting};
+ghost use Rattle.hs_cluster.specs.Cached.{AreCached};
 ghost use Rattle.hs_cluster.specs.Disks.{AreReady, seen_as};
 ghost use Rattle.hs_cluster.specs.Growing.{GoesOn};
 ghost use Rattle.hs_cluster.specs.Kept.{Shows};
@@ -12,7 +13,7 @@ ghost use Rattle.hs_cluster.specs.Jobs.{StandsBeside};
 ghost use Rattle.hs_core_words.specs.Looking.{first_job, known_of, status_of};
 ghost use Rattle.hs_members.specs.Members.{IsPeer, all_peers, is_joining};
 
-use crate::job::do_job;
+use crate::recall::do_first;
 use crate::{Cluster, ClusterFault};
 use hs_core::Core;
 use hs_core_words::Event;
@@ -36,6 +37,8 @@ impl Cluster {
             ≡ self.old.core.members.shape.shards * self.old.core.members.shape.copies }
         requires ready { AreReady D.tells self.old.logs
             (map (λ disk. seen_as (D.size disk) (D.stands disk) (D.faults disk)) disks.old) }
+        requires cached { AreCached D.tells self.old.cache self.old.logs
+            (map (λ disk. seen_as (D.size disk) (D.stands disk) (D.faults disk)) disks.old) }
         ensures walks { RunsWalk nudges line watch.old watch.new self.old self.new result
             (Shows D.tells (record {
               before = watch.old;
@@ -53,6 +56,8 @@ impl Cluster {
         ensures joins { (p : ℕ) → is_joining (status_of p self.old.core) ≡ false
             → OnOk result (is_joining (status_of p self.new.core) ≡ false) }
         ensures ready { OnOk result (AreReady D.tells self.new.logs
+            (map (λ disk. seen_as (D.size disk) (D.stands disk) (D.faults disk)) disks.new)) }
+        ensures cached { OnOk result (AreCached D.tells self.new.cache self.new.logs
             (map (λ disk. seen_as (D.size disk) (D.stands disk) (D.faults disk)) disks.new)) }
         ensures count { length disks.new ≡ length disks.old }
         ensures shape { self.new.core.members.shape ≡ self.old.core.members.shape }
@@ -90,6 +95,8 @@ impl Cluster {
             ≡ self.old.core.members.shape.shards * self.old.core.members.shape.copies }
         requires ready { AreReady D.tells self.old.logs
             (map (λ disk. seen_as (D.size disk) (D.stands disk) (D.faults disk)) disks.old) }
+        requires cached { AreCached D.tells self.old.cache self.old.logs
+            (map (λ disk. seen_as (D.size disk) (D.stands disk) (D.faults disk)) disks.old) }
         ensures does { DoesDue line due watch.old watch.new self.old self.new result
             (Shows D.tells (record {
               before = watch.old;
@@ -109,6 +116,8 @@ impl Cluster {
         ensures joins { (p : ℕ) → is_joining (status_of p self.old.core) ≡ false
             → OnOk result (is_joining (status_of p self.new.core) ≡ false) }
         ensures ready { OnOk result (AreReady D.tells self.new.logs
+            (map (λ disk. seen_as (D.size disk) (D.stands disk) (D.faults disk)) disks.new)) }
+        ensures cached { OnOk result (AreCached D.tells self.new.cache self.new.logs
             (map (λ disk. seen_as (D.size disk) (D.stands disk) (D.faults disk)) disks.new)) }
         ensures count { length disks.new ≡ length disks.old }
         ensures shape { self.new.core.members.shape ≡ self.old.core.members.shape }
@@ -139,6 +148,8 @@ impl Cluster {
             ≡ self.old.core.members.shape.shards * self.old.core.members.shape.copies }
         requires ready { AreReady D.tells self.old.logs
             (map (λ disk. seen_as (D.size disk) (D.stands disk) (D.faults disk)) disks.old) }
+        requires cached { AreCached D.tells self.old.cache self.old.logs
+            (map (λ disk. seen_as (D.size disk) (D.stands disk) (D.faults disk)) disks.old) }
         ensures does { DoesDue line due watch.old watch.new self.old self.new result
             (Shows D.tells (record {
               before = watch.old;
@@ -159,6 +170,8 @@ impl Cluster {
         ensures joins { (p : ℕ) → is_joining (status_of p self.old.core) ≡ false
             → OnOk result (is_joining (status_of p self.new.core) ≡ false) }
         ensures ready { OnOk result (AreReady D.tells self.new.logs
+            (map (λ disk. seen_as (D.size disk) (D.stands disk) (D.faults disk)) disks.new)) }
+        ensures cached { OnOk result (AreCached D.tells self.new.cache self.new.logs
             (map (λ disk. seen_as (D.size disk) (D.stands disk) (D.faults disk)) disks.new)) }
         ensures count { length disks.new ≡ length disks.old }
         ensures shape { self.new.core.members.shape ≡ self.old.core.members.shape }
@@ -189,6 +202,8 @@ impl Cluster {
             ≡ self.old.core.members.shape.shards * self.old.core.members.shape.copies }
         requires ready { AreReady D.tells self.old.logs
             (map (λ disk. seen_as (D.size disk) (D.stands disk) (D.faults disk)) disks.old) }
+        requires cached { AreCached D.tells self.old.cache self.old.logs
+            (map (λ disk. seen_as (D.size disk) (D.stands disk) (D.faults disk)) disks.old) }
         ensures does { (line : ℕ) → DoesDue line (Reporting peer) watch.old watch.new
             self.old self.new result
             (Shows D.tells (record {
@@ -211,12 +226,22 @@ impl Cluster {
             → OnOk result (is_joining (status_of p self.new.core) ≡ false) }
         ensures ready { OnOk result (AreReady D.tells self.new.logs
             (map (λ disk. seen_as (D.size disk) (D.stands disk) (D.faults disk)) disks.new)) }
+        ensures cached { OnOk result (AreCached D.tells self.new.cache self.new.logs
+            (map (λ disk. seen_as (D.size disk) (D.stands disk) (D.faults disk)) disks.new)) }
         ensures count { length disks.new ≡ length disks.old }
         ensures shape { self.new.core.members.shape ≡ self.old.core.members.shape }
         ensures moment { OnOk result (self.new.core.moment ≤ watch.new) }
         ensures ticks { watch.old ≤ watch.new }
     {
-        let done = do_job(self.alloc, &self.core, &mut self.logs, disks, watch, peer);
+        let done = do_first(
+            self.alloc,
+            &self.core,
+            &mut self.logs,
+            &mut self.cache,
+            disks,
+            watch,
+            peer,
+        );
         let Ok(done) = done else {
             return Err(ClusterFault::NoMemory);
         };

@@ -1,10 +1,10 @@
-use Rattle.std.proofs.Common.{rules, ◌≡◌, ◌∙◌, ◌<◌, Some, false, ap, arith, length, map, refl, slice_set, subst, sym, true}
+use Rattle.std.proofs.Common.{rules, ◌≡◌, ◌∙◌, ◌<◌, None, Some, false, ap, arith, length, map, refl, slice_set, subst, sym, true}
 use Rattle.std.proofs.lemmas.Grind.{common_steps}
 use Rattle.std.specs.Prelude.{IfOk, IsSome, slice_index_or}
 use Rattle.hs_cluster.proofs.CopyLemmas.{beside_one, beside_same, usual_own, works_cut, works_own, works_reset}
 use Rattle.hs_cluster.proofs.CountLemmas.{all_paid_result, copy_paid_result, falls_not, falls_same, job_paid_result, paid_at, stand_at}
 use Rattle.hs_cluster.proofs.DiskLemmas.{log_read, not_own, reads_at, since_of, slot_at, stored_as, works_at, works_nothing}
-use Rattle.hs_cluster.proofs.GrowingLemmas.{goes_at, goes_same}
+use Rattle.hs_cluster.proofs.GrowingLemmas.{goes_at, goes_same, slot_gone, unless_any, unless_emptied}
 use Rattle.hs_cluster.proofs.HeadLemmas.{heads_at, heads_stay}
 use Rattle.hs_cluster.specs.Disks.{DiskSeen, log_at, seen_as}
 use Rattle.hs_cluster.specs.declared.fault.ClusterFault.TheVariants.{NoMemory}
@@ -278,6 +278,31 @@ returns-in-Append-clause-goes_on g c = λ told p apart.
     let low : c.from-place.result < length c.args.disks.now = grind (arith, common_steps) in
     let low_logs : c.from-place.result < length c.args.logs.now.items = grind (arith, common_steps) in
     goes_at c.args.logs.now.items c.args.disks.now f c.from-place.result c.index_mut-in-Append.result.now c.do_usual.new.slot c.index-disks-place-in-Append.result c.do_usual.new.disk p item low_logs low (λ e. c.do_usual.ensures.goes_on told)
+
+pub returns-in_default-clause-keeps : goal.returns-in_default-clause-keeps
+returns-in_default-clause-keeps g c = λ told. tt
+
+pub returns-in-Reset-clause-keeps : goal.returns-in-Reset-clause-keeps
+returns-in-Reset-clause-keeps g c = λ told.
+    let f : g.row.D.Denot → DiskSeen = λ disk. seen_as (g.D.Disk.size disk) (g.D.Disk.stands disk) (g.D.Disk.faults disk) in
+    let item : c.index_mut.result.now ≡ log_at c.args.logs.now.items c.from-place.result = grind (arith, common_steps) in
+    let low : c.from-place.result < length c.args.disks.now = grind (arith, common_steps) in
+    let low_logs : c.from-place.result < length c.args.logs.now.items = grind (arith, common_steps) in
+    unless_emptied c.do_reset.result (c.do_reset.new.slot ≡ None) _
+    (λ gone p. goes_at c.args.logs.now.items c.args.disks.now f c.from-place.result c.index_mut.result.now c.do_reset.new.slot c.index-disks-place.result c.do_reset.new.disk p item low_logs low (λ e. slot_gone _ _ _ _ gone))
+    c.do_reset.ensures.gone
+
+pub returns-in-Copy-clause-keeps : goal.returns-in-Copy-clause-keeps
+returns-in-Copy-clause-keeps g c = λ told. unless_any c.do_copy.result _ (c.do_copy.ensures.goes_on told)
+
+pub returns-in-Append-clause-keeps : goal.returns-in-Append-clause-keeps
+returns-in-Append-clause-keeps g c = λ told.
+    let f : g.row.D.Denot → DiskSeen = λ disk. seen_as (g.D.Disk.size disk) (g.D.Disk.stands disk) (g.D.Disk.faults disk) in
+    let item : c.index_mut-in-Append.result.now ≡ log_at c.args.logs.now.items c.from-place.result = grind (arith, common_steps) in
+    let low : c.from-place.result < length c.args.disks.now = grind (arith, common_steps) in
+    let low_logs : c.from-place.result < length c.args.logs.now.items = grind (arith, common_steps) in
+    unless_any c.do_usual.result _
+    (λ p. goes_at c.args.logs.now.items c.args.disks.now f c.from-place.result c.index_mut-in-Append.result.now c.do_usual.new.slot c.index-disks-place-in-Append.result c.do_usual.new.disk p item low_logs low (λ e. c.do_usual.ensures.goes_on told))
 
 -- ---- whose header a stop leaves
 

@@ -88,3 +88,11 @@ returns-in-Err-Disk-clause-headed g c = λ told headed.
     → StaysHeaded (own_header s c.args.peer) c.args.watch.now c.empty_disk.new.watch (g.D.Disk.stands c.args.disk.now) (g.D.Disk.stands c.empty_disk.new.disk) None in
     subst behind c.shape.ensures.value (λ h. headed_gone (own_header c.shape.result c.args.peer) c.args.watch.now c.empty_disk.new.watch (g.D.Disk.stands c.args.disk.now) (g.D.Disk.stands c.empty_disk.new.disk) None refl
     (record { past = c.empty_disk.ensures.past told h.called; keeps = c.empty_disk.ensures.headed told h.called h.leaves })) headed
+
+-- but for an emptying the log is out of use
+
+pub returns-in-Ok-clause-gone : goal.returns-in-Ok-clause-gone
+returns-in-Ok-clause-gone g c = λ differs. absurd (differs refl)
+
+pub returns-in-Err-Disk-clause-gone : goal.returns-in-Err-Disk-clause-gone
+returns-in-Err-Disk-clause-gone g c = λ differs. refl

@@ -1,6 +1,8 @@
 use Rattle.std.proofs.Common.{◌≡◌, Some, arith, map, refl, subst, sym, ap, inl}
 use Rattle.hs_cluster.proofs.CopyLemmas.{beside_same}
+use Rattle.hs_cluster.proofs.DiskLemmas.{always_ok}
 use Rattle.hs_cluster.proofs.GrowingLemmas.{goes_as}
+use Rattle.hs_cluster.proofs.RecallLemmas.{cached_as}
 use Rattle.hs_cluster.specs.Jobs.{StandsBeside}
 use Rattle.hs_core_words.specs.Looking.{first_job}
 use Rattle.hs_events.specs.Due.{peer_due}
@@ -75,3 +77,13 @@ returns-in-Nudging-clause-goes_on g c = λ told p apart.
 
 pub returns-in-Nudging-clause-joins : goal.returns-in-Nudging-clause-joins
 returns-in-Nudging-clause-joins g c = λ p apart. c.step-in-Nudging.ensures.joins p refl apart
+
+pub returns-in-Handling-clause-cached : goal.returns-in-Handling-clause-cached
+returns-in-Handling-clause-cached g c =
+    let f : g.row.D.Denot → DiskSeen = λ disk. seen_as (g.D.Disk.size disk) (g.D.Disk.stands disk) (g.D.Disk.faults disk) in
+    always_ok c.step.result (cached_as g.D.Disk.tells c.args.self.now.cache c.step.new.self.cache c.args.self.now.logs c.step.new.self.logs (map f c.args.disks.now) c.requires.cached c.step.ensures.cache c.step.ensures.logs)
+
+pub returns-in-Nudging-clause-cached : goal.returns-in-Nudging-clause-cached
+returns-in-Nudging-clause-cached g c =
+    let f : g.row.D.Denot → DiskSeen = λ disk. seen_as (g.D.Disk.size disk) (g.D.Disk.stands disk) (g.D.Disk.faults disk) in
+    always_ok c.step-in-Nudging.result (cached_as g.D.Disk.tells c.args.self.now.cache c.step-in-Nudging.new.self.cache c.args.self.now.logs c.step-in-Nudging.new.self.logs (map f c.args.disks.now) c.requires.cached c.step-in-Nudging.ensures.cache c.step-in-Nudging.ensures.logs)

@@ -8,6 +8,7 @@ use Rattle.hs_cluster.specs.Jobs.{StandsBeside}
 use Rattle.hs_core_words.specs.Looking.{first_job}
 use Rattle.hs_core_words.specs.State.{Core}
 use Rattle.hs_cluster.proofs.LineLemmas.{runs_turn, runs_turn_alone, runs_turn_cut}
+use Rattle.hs_cluster.proofs.RecallLemmas.{cached_as}
 use Rattle.hs_cluster.proofs.ShowLemmas.{any_shows, quiet_shows, shows_then}
 use Rattle.hs_cluster.specs.Calls.{Does, RunsLine, done_of}
 use Rattle.hs_cluster.specs.declared.fault.ClusterFault.{ClusterFault}
@@ -106,3 +107,8 @@ returns-in-None-clause-joins g c = λ p apart. c.in_ok-step.ensures.joins p refl
 
 pub returns-in-Some-clause-joins : goal.returns-in-Some-clause-joins
 returns-in-Some-clause-joins g c = λ p apart. c.do_due.ensures.joins p (c.in_ok-step.ensures.joins p refl apart)
+
+pub returns-in-None-clause-cached : goal.returns-in-None-clause-cached
+returns-in-None-clause-cached g c =
+    let f : g.row.D.Denot → DiskSeen = λ disk. seen_as (g.D.Disk.size disk) (g.D.Disk.stands disk) (g.D.Disk.faults disk) in
+    cached_as g.D.Disk.tells c.args.self.now.cache c.step.new.self.cache c.args.self.now.logs c.step.new.self.logs (map f c.args.disks.now) c.requires.cached c.step.ensures.cache c.step.ensures.logs

@@ -1,0 +1,32 @@
+-- What a contract sees of a cache.
+use Rattle.std.specs.Prelude.{ℕ, ◌==◌, ◌&&◌, Bool, List}
+use Rattle.lru.specs.LruCache.{LruCache, lru_cache, promoted, put_entries}
+
+-- the number of an owner, and its own
+abbrev pub Key : Type 0
+Key = ℕ × ℕ
+
+abbrev pub Pairs : Type 0
+Pairs = List (Key × List ℕ)
+
+-- what is kept, the last used first, and how much there may be
+abbrev pub Cached : Type 0
+Cached = LruCache Key (List ℕ)
+
+abbrev pub cached : Pairs → ℕ → Cached
+cached pairs most = lru_cache pairs most
+
+-- whether two keys are the same
+abbrev pub is_same : Key → Key → Bool
+is_same a b = a.0 == b.0 && a.1 == b.1
+
+abbrev pub is_key : ℕ → ℕ → Key → Bool
+is_key owner number = is_same (owner, number)
+
+-- what is kept, with that of a number in front, where it is there
+abbrev pub promoted_at : ℕ → ℕ → Pairs → Pairs
+promoted_at owner number pairs = promoted (is_key owner number) pairs
+
+-- with these bytes in front; where there is no such number the last one of a full cache goes
+abbrev pub put_at : ℕ → ℕ → List ℕ → Cached → Pairs
+put_at owner number bytes cache = put_entries is_same cache (owner, number) bytes
