@@ -1,1 +1,2 @@
 pub mod LookupLemmas
+pub mod RecentLemmas

@@ -1,5 +1,5 @@
 -- What a contract sees of a cache.
-use Rattle.std.specs.Prelude.{ℕ, ◌==◌, ◌&&◌, Bool, List}
+use Rattle.std.specs.Prelude.{ℕ, ◌==◌, ◌&&◌, Bool, Contains, List, [], None, Option, Some}
 use Rattle.lru.specs.LruCache.{LruCache, lru_cache, promoted, put_entries}
 
 -- the number of an owner, and its own
@@ -30,3 +30,21 @@ promoted_at owner number pairs = promoted (is_key owner number) pairs
 -- with these bytes in front; where there is no such number the last one of a full cache goes
 abbrev pub put_at : ℕ → ℕ → List ℕ → Cached → Pairs
 put_at owner number bytes cache = put_entries is_same cache (owner, number) bytes
+
+-- the cache behind that, and an empty one
+abbrev pub with_pair : ℕ → ℕ → List ℕ → Cached → Cached
+with_pair owner number bytes cache = cached (put_at owner number bytes cache) cache.cap
+
+abbrev pub cleared : Cached → Cached
+cleared cache = cached [] cache.cap
+
+-- ---- a cache, or none
+
+-- what is kept: nothing where there is none
+abbrev pub pairs_of : Option Cached → Pairs
+pairs_of None = []
+pairs_of (Some cache) = cache.entries
+
+-- nothing is kept that was not
+abbrev pub HasNoMore : Option Cached → Option Cached → Type 0
+HasNoMore old new = (pair : Key × List ℕ) → Contains (pairs_of new) pair → Contains (pairs_of old) pair

@@ -3,6 +3,8 @@
 
 mod cache;
 mod fault;
+mod recent;
 
 pub use cache::Cache;
 pub use fault::CacheFault;
+pub use recent::{forget_all, recall, remember};

@@ -1,14 +1,13 @@
 -- The list of a log goes on by what is done on its disk.
-use Rattle.std.proofs.Common.{◌≡◌, ◌≢◌, ◌∙◌, inl, inr, sym, subst, ℕ, ◌+◌, ◌<◌, true, false, List, [], ◌∷◌, ◌++◌, Option, Some, None, map, length, refl}
+use Rattle.std.proofs.Common.{◌≡◌, ◌∙◌, inl, inr, sym, subst, ℕ, ◌+◌, ◌<◌, true, false, List, [], ◌∷◌, ◌++◌, Option, Some, None, map, length, refl}
 use Rattle.std.proofs.lemmas.Bool.{cases_eq}
 use Rattle.std.proofs.lemmas.List.{append-nil, append_assoc, get_or-set_same, get_or-set_other}
-use Rattle.std.specs.Prelude.{IfOk, Result, Ok, Err, slice_index_or, slice_set}
+use Rattle.std.specs.Prelude.{slice_index_or, slice_set}
 use Rattle.hs_cluster.proofs.DiskLemmas.{stands_at, stands_other, stands_set}
 use Rattle.hs_cluster.specs.Disks.{DiskSeen, log_at, stands_of}
 use Rattle.hs_cluster.specs.Growing.{GoesOn, KeepsMore, SlotGoesOn}
 use Rattle.hs_cluster.specs.Jobs.{ReadsLog, ReadsOn, is_own, list_after, sealed_list, waiting_after}
 use Rattle.hs_desk.specs.declared.done.Done.{Done}
-use Rattle.hs_desk.specs.declared.done.Done.TheVariants as done
 use Rattle.hs_desk.specs.declared.job.Job.{Job}
 use Rattle.hs_desk.specs.declared.job.Job.TheVariants as job
 use Rattle.hs_entry.specs.declared.entry.Entry.{Entry}
@@ -114,16 +113,6 @@ slot_then a b c x y z one two = record {
           waiting = second.waiting;
           kept = subst (λ l. IsKept after (z.seen after.log.side) l second.waiting) (append_assoc list first.more second.more) second.kept;
         }
-
--- ---- where nothing was emptied
-
-pub unless_emptied : {E : Type 0} (r : Result Done E) (P Q : Type 0) → (P → Q) → IfOk r (λ told. told ≢ done.Emptied → P) → IfOk r (λ told. told ≢ done.Emptied → Q)
-unless_emptied (Ok told) P Q f h = λ differs. f (h differs)
-unless_emptied (Err fault) P Q f h = tt
-
-pub unless_any : {E : Type 0} (r : Result Done E) (Q : Type 0) → Q → IfOk r (λ told. told ≢ done.Emptied → Q)
-unless_any (Ok told) Q q = λ differs. q
-unless_any (Err fault) Q q = tt
 
 -- ---- the logs of all peers
 

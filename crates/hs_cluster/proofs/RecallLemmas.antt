@@ -1,13 +1,14 @@
 -- A Read that is told from the cache, and what is cached behind a job.
 use Rattle.std.proofs.Common.{◌≡◌, ◌≢◌, ◌∙◌, ◌⊎◌, inl, inr, ap, sym, subst, ℕ, zero, suc, ◌++◌, ◌<◌, true, false, List, [], ◌∷◌, Contains, Option, Some, None, refl, arith}
 use Rattle.std.proofs.lemmas.List.Elements.{Contains-append_left}
-use Rattle.std.specs.Option.{option_map_or}
-use Rattle.std.specs.Prelude.{◌==◌, ◌&&◌, Bool, IsSome, OnOk, Result, Ok, Err}
-use Rattle.hs_cache.specs.Cached.{Cached, Key, Pairs, cached, is_same, put_at}
+use Rattle.std.specs.Option.{option_map, option_map_or}
+use Rattle.std.specs.Prelude.{◌==◌, Bool, IfOk, IsSome, Result, Ok, Err}
+use Rattle.hs_cache.proofs.RecentLemmas.{put_there}
+use Rattle.hs_cache.specs.Cached.{Cached, HasNoMore, Key, cleared, pairs_of, with_pair}
 use Rattle.hs_cluster.proofs.JobLemmas.{Since, stays_all, stays_one}
 use Rattle.hs_cluster.proofs.CopyLemmas.{alone_fine, works_own}
 use Rattle.hs_cluster.proofs.ReadLemmas.{some_log}
-use Rattle.hs_cluster.specs.Cached.{AreCached, HasNoMore, IsRecalled, Remembers, pairs_of, remembered}
+use Rattle.hs_cluster.specs.Cached.{AreCached, IsRecalled, Remembers, with_told}
 use Rattle.hs_cluster.specs.Counts.{HasAllPaid, HasPaid}
 use Rattle.hs_cluster.specs.Disks.{AreReady, DiskSeen, log_at, seen_at, stands_of}
 use Rattle.hs_cluster.specs.Growing.{GoesOn}
@@ -30,7 +31,6 @@ use Rattle.hs_peerlog.proofs.ListLemmas.{has-list}
 use Rattle.hs_peerlog.specs.Lists.{HasLog, IsKept, Keeping}
 use Rattle.hs_ports.specs.Moments.{disk_at}
 use Rattle.hs_side.specs.declared.header.Header.{Header}
-use Rattle.lru.proofs.CallerLemmas.{Contains-put_entries}
 
 none_is_not : {A : Type 0} (x : A) → None ≡ Some x → ⊥
 none_is_not x e = cc e
@@ -43,6 +43,16 @@ false_is_not e = cc e
 
 contains_none : {A : Type 0} (x : A) → Contains [] x → ⊥
 contains_none x there = omega (arith, there.1)
+
+-- ---- where nothing was emptied
+
+pub unless_emptied : {E : Type 0} (r : Result Done E) (P Q : Type 0) → (P → Q) → IfOk r (λ told. told ≢ done.Emptied → P) → IfOk r (λ told. told ≢ done.Emptied → Q)
+unless_emptied (Ok told) P Q f h = λ differs. f (h differs)
+unless_emptied (Err fault) P Q f h = tt
+
+pub unless_any : {E : Type 0} (r : Result Done E) (Q : Type 0) → Q → IfOk r (λ told. told ≢ done.Emptied → Q)
+unless_any (Ok told) Q q = λ differs. q
+unless_any (Err fault) Q q = tt
 
 -- ---- what a log reads as
 
@@ -98,8 +108,8 @@ cached_fewer tells cache logs fewer disks has h = record {
   each = λ told peer number bytes there keeping at. has.each told peer number bytes there keeping (h peer keeping at);
 }
 
-pub cached_as : (tells : Type 0) (cache other : Option Cached) (logs after : List (Option Keeping)) (disks : List DiskSeen) → AreCached tells cache logs disks → other ≡ cache → after ≡ logs → AreCached tells other after disks
-cached_as tells cache other logs after disks has same stays = subst (λ l. AreCached tells other l disks) (sym stays) (subst (λ o. AreCached tells o logs disks) (sym same) has)
+pub cached_as : (tells : Type 0) (cache : Option Cached) (logs after : List (Option Keeping)) (disks : List DiskSeen) → AreCached tells cache logs disks → after ≡ logs → AreCached tells cache after disks
+cached_as tells cache logs after disks has same = subst (λ l. AreCached tells cache l disks) (sym same) has
 
 -- lists only go on
 pub cached_goes : (tells : Type 0) (cache : Option Cached) (logs after : List (Option Keeping)) (disks left : List DiskSeen) → AreReady tells logs disks → AreCached tells cache logs disks
@@ -172,21 +182,11 @@ told_there tells core peer told logs after disks left ready tell answer had read
 
 -- ---- what is cached behind a job
 
-both_true : (a b : Bool) → (a && b) ≡ true → (a ≡ true) × (b ≡ true)
-both_true true true h = (refl, refl)
-both_true true false h = absurd (false_is_not h)
-both_true false b h = absurd (false_is_not h)
-
-same_key : (a b : Key) → is_same a b ≡ true → a ≡ b
-same_key a b h =
-    let parts = both_true (a.0 == b.0) (a.1 == b.1) h in
-    ap (λ n. (n, a.1)) (same_number a.0 b.0 parts.0) ∙ ap (λ n. (b.0, n)) (same_number a.1 b.1 parts.1)
-
 module _ (tells : Type 0) (logs after : List (Option Keeping)) (disks left : List DiskSeen) (peer : ℕ) (ready : AreReady tells logs disks) where
   -- with what was read
   with_read : (cache : Cached) (number : ℕ) (bytes : List ℕ) → AreCached tells (Some cache) after left → (tells → HasTold after left peer (done.Bytes number bytes))
-      → AreCached tells (Some (cached (put_at peer number bytes cache) cache.cap)) after left
-  with_read cache number bytes has there = record { each = λ told p n bs at. by told p n bs (Contains-put_entries is_same cache (peer, number) bytes ((p, n), bs) at) }
+      → AreCached tells (Some (with_pair peer number bytes cache)) after left
+  with_read cache number bytes has there = record { each = λ told p n bs at. by told p n bs (put_there cache peer number bytes ((p, n), bs) at) }
     where
       abbrev Block : ℕ → ℕ → List ℕ → Type 0
       Block p n bs = (keeping : Keeping) → log_at after p ≡ Some keeping → (list : Numbered) (waiting : Option Entry) → IsKept keeping ((disk_at (stands_of left) p).seen keeping.log.side) list waiting → HasBlock n bs (Some list)
@@ -197,13 +197,9 @@ module _ (tells : Type 0) (logs after : List (Option Keeping)) (disks left : Lis
           (subst (λ m. Block peer m bs) (sym (ap (λ (k : Key). k.1) key))
           (subst (λ b. Block peer number b) (sym same) (there told number bytes refl)))
 
-      by : tells → (p n : ℕ) (bs : List ℕ) → Contains cache.entries ((p, n), bs) ⊎ ((bs ≡ bytes) × (((p, n) ≡ (peer, number)) ⊎ ((w : List ℕ) × Contains cache.entries ((p, n), w) × (is_same (peer, number) (p, n) ≡ true))))
-          → Block p n bs
+      by : tells → (p n : ℕ) (bs : List ℕ) → Contains cache.entries ((p, n), bs) ⊎ (((p, n), bs) ≡ ((peer, number), bytes)) → Block p n bs
       by told p n bs (inl was) = has.each told p n bs was
-      by told p n bs (inr put) = elim put.1 [
-        | inl key ↦ here told p n bs key put.0
-        | inr more ↦ here told p n bs (sym (same_key (peer, number) (p, n) more.2)) put.0
-      ]
+      by told p n bs (inr is) = here told p n bs (ap (λ (x : Key × List ℕ). x.0) is) (ap (λ (x : Key × List ℕ). x.1) is)
 
   pub cached_told : (cache mid behind : Option Cached) (told : Done) → AreCached tells cache logs disks → HasNoMore cache mid → Remembers peer told mid behind
       → (tells → told ≢ done.Emptied → (p : ℕ) → GoesOn logs disks after left p) → (tells → HasTold after left peer told) → AreCached tells behind after left
@@ -216,19 +212,55 @@ module _ (tells : Type 0) (logs after : List (Option Keeping)) (disks left : Lis
       on o is d goes differs = cached_goes tells o logs after disks left ready is (λ tell. goes tell differs)
 
       by : (kept : Cached) (d : Done) → AreCached tells (Some kept) logs disks → (tells → d ≢ done.Emptied → (p : ℕ) → GoesOn logs disks after left p) → (tells → HasTold after left peer d)
-          → AreCached tells (remembered peer d (Some kept)) after left
+          → AreCached tells (Some (with_told peer d kept)) after left
       by kept (done.Stored number) is goes there = on (Some kept) is (done.Stored number) goes (λ e. cc e)
       by kept (done.Sealed number) is goes there = on (Some kept) is (done.Sealed number) goes (λ e. cc e)
       by kept (done.Bytes number bytes) is goes there = with_read kept number bytes (on (Some kept) is (done.Bytes number bytes) goes (λ e. cc e)) there
       by kept (done.Gone number) is goes there = on (Some kept) is (done.Gone number) goes (λ e. cc e)
-      by kept done.Emptied is goes there = cached_none tells (Some (cached [] kept.cap)) after left refl
+      by kept done.Emptied is goes there = cached_none tells (Some (cleared kept)) after left refl
       by kept (done.Copied number) is goes there = on (Some kept) is (done.Copied number) goes (λ e. cc e)
       by kept (done.Stepped switched) is goes there = on (Some kept) is (done.Stepped switched) goes (λ e. cc e)
       by kept (done.Failed disk) is goes there = on (Some kept) is (done.Failed disk) goes (λ e. cc e)
 
-      of_cache : (o : Option Cached) → AreCached tells o logs disks → AreCached tells (remembered peer told o) after left
+      of_cache : (o : Option Cached) → AreCached tells o logs disks → AreCached tells (option_map (with_told peer told) o) after left
       of_cache None is = cached_none tells None after left refl
       of_cache (Some kept) is = by kept told is goes there
+
+-- by what was told
+pub kept_read : (peer number : ℕ) (bytes : List ℕ) (told : Done) (old new : Option Cached) → told ≡ done.Bytes number bytes → (new ≡ option_map (with_pair peer number bytes) old) ⊎ (new ≡ old) → Remembers peer told old new
+kept_read peer number bytes told old new is h = elim h [
+  | inl made ↦ inl (made ∙ as_told old ∙ ap (λ d. option_map (with_told peer d) old) (sym is))
+  | inr same ↦ inr (λ e. differs (sym is ∙ e), same)
+]
+  where
+    as_told : (o : Option Cached) → option_map (with_pair peer number bytes) o ≡ option_map (with_told peer (done.Bytes number bytes)) o
+    as_told None = refl
+    as_told (Some cache) = refl
+
+    differs : done.Bytes number bytes ≡ done.Emptied → ⊥
+    differs e = cc e
+
+pub kept_emptied : (peer : ℕ) (told : Done) (old new : Option Cached) → told ≡ done.Emptied → new ≡ option_map cleared old → Remembers peer told old new
+kept_emptied peer told old new is made = inl (made ∙ as_told old ∙ ap (λ d. option_map (with_told peer d) old) (sym is))
+  where
+    as_told : (o : Option Cached) → option_map cleared o ≡ option_map (with_told peer done.Emptied) o
+    as_told None = refl
+    as_told (Some cache) = refl
+
+pub kept_same : (peer : ℕ) (told : Done) (old : Option Cached)
+    → ((n : ℕ) × (told ≡ done.Stored n)) ⊎ (((n : ℕ) × (told ≡ done.Sealed n)) ⊎ (((n : ℕ) × (told ≡ done.Gone n)) ⊎ (((n : ℕ) × (told ≡ done.Copied n)) ⊎ (((b : Bool) × (told ≡ done.Stepped b)) ⊎ ((n : ℕ) × (told ≡ done.Failed n))))))
+    → Remembers peer told old old
+kept_same peer told old h = inr (λ e. differs e h, refl)
+  where
+    differs : told ≡ done.Emptied
+        → ((n : ℕ) × (told ≡ done.Stored n)) ⊎ (((n : ℕ) × (told ≡ done.Sealed n)) ⊎ (((n : ℕ) × (told ≡ done.Gone n)) ⊎ (((n : ℕ) × (told ≡ done.Copied n)) ⊎ (((b : Bool) × (told ≡ done.Stepped b)) ⊎ ((n : ℕ) × (told ≡ done.Failed n))))))
+        → ⊥
+    differs e (inl x) = cc (sym x.1 ∙ e)
+    differs e (inr (inl x)) = cc (sym x.1 ∙ e)
+    differs e (inr (inr (inl x))) = cc (sym x.1 ∙ e)
+    differs e (inr (inr (inr (inl x)))) = cc (sym x.1 ∙ e)
+    differs e (inr (inr (inr (inr (inl x))))) = cc (sym x.1 ∙ e)
+    differs e (inr (inr (inr (inr (inr x))))) = cc (sym x.1 ∙ e)
 
 -- ---- a Read that is told from the cache
 

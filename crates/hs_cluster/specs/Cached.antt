@@ -1,6 +1,7 @@
 -- What a cluster keeps of blocks that were read, and why a Read may be told from there.
-use Rattle.std.specs.Prelude.{◌≡◌, ◌≢◌, ◌⊎◌, ℕ, Contains, IsSome, List, [], Option, None, Some}
-use Rattle.hs_cache.specs.Cached.{Cached, Key, Pairs, cached, put_at}
+use Rattle.std.specs.Option.{option_map}
+use Rattle.std.specs.Prelude.{◌≡◌, ◌≢◌, ◌⊎◌, ℕ, Contains, IsSome, List, Option, Some}
+use Rattle.hs_cache.specs.Cached.{Cached, cleared, pairs_of, with_pair}
 use Rattle.hs_cluster.specs.Disks.{DiskSeen, log_at, stands_of}
 use Rattle.hs_cluster.specs.Jobs.{AreBytes}
 use Rattle.hs_core_words.specs.Looking.{first_job}
@@ -13,11 +14,6 @@ use Rattle.hs_events.specs.Reports.{HasBlock}
 use Rattle.hs_fold.specs.Shards.Setting.{Numbered}
 use Rattle.hs_peerlog.specs.Lists.{IsKept, Keeping}
 use Rattle.hs_ports.specs.Moments.{disk_at}
-
--- by the number of a peer and that of an entry; nothing where there is no cache
-abbrev pub pairs_of : Option Cached → Pairs
-pairs_of None = []
-pairs_of (Some cache) = cache.entries
 
 -- where disks tell their contents, what is kept of a peer is the block of its number, in the list that the peer's log reads as, where that is in use
 pub record AreCached (tells : Type 0) (cache : Option Cached) (logs : List (Option Keeping)) (disks : List DiskSeen) : Type 0 where
@@ -36,27 +32,19 @@ pub record IsRecalled (core : Core) (logs : List (Option Keeping)) (cache : Opti
   pub kept : Contains (pairs_of cache) ((peer, number), bytes)
   pub fits : AreBytes bytes
 
--- nothing is kept that was not
-abbrev pub HasNoMore : Option Cached → Option Cached → Type 0
-HasNoMore old new = (pair : Key × List ℕ) → Contains (pairs_of new) pair → Contains (pairs_of old) pair
-
 -- ---- behind a job
 
 -- what was read is in front, and an emptying leaves nothing
 abbrev pub with_told : ℕ → Done → Cached → Cached
 with_told peer (done.Stored number) cache = cache
 with_told peer (done.Sealed number) cache = cache
-with_told peer (done.Bytes number bytes) cache = cached (put_at peer number bytes cache) cache.cap
+with_told peer (done.Bytes number bytes) cache = with_pair peer number bytes cache
 with_told peer (done.Gone number) cache = cache
-with_told peer done.Emptied cache = cached [] cache.cap
+with_told peer done.Emptied cache = cleared cache
 with_told peer (done.Copied number) cache = cache
 with_told peer (done.Stepped switched) cache = cache
 with_told peer (done.Failed disk) cache = cache
 
-abbrev pub remembered : ℕ → Done → Option Cached → Option Cached
-remembered peer told None = None
-remembered peer told (Some cache) = Some (with_told peer told cache)
-
 -- so, or as before where memory is wanting for what was read
 abbrev pub Remembers : ℕ → Done → Option Cached → Option Cached → Type 0
-Remembers peer told old new = (new ≡ remembered peer told old) ⊎ ((told ≢ done.Emptied) × (new ≡ old))
+Remembers peer told old new = (new ≡ option_map (with_told peer told) old) ⊎ ((told ≢ done.Emptied) × (new ≡ old))

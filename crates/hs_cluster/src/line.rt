@@ -17,6 +17,7 @@ ghost use Rattle.hs_peerlog.specs.Lists.{Keeping};
 
 use crate::{Cluster, ClusterFault};
 use hs_block::Addresser;
+use hs_cache::Cache;
 use hs_core_words::Event;
 use hs_events::{addressed, turn_behind};
 use hs_model::{Command, Op};
@@ -26,6 +27,7 @@ impl Cluster {
     /// Does one line of a script. A cluster whose core has ended answers its fault, and nothing
     /// happens. The disks are those that the last call left. After a fault the core has ended, but
     /// for want of memory, and the cluster is of use no more.
+    #[tactic(auto, using(crate::proofs::RecallLemmas::no_cache))]
     pub fn run<A: Addresser, D: Disk>(
         &mut self,
         naming: &A,
@@ -39,8 +41,6 @@ impl Cluster {
         requires count { length disks.old
             ≡ self.old.core.members.shape.shards * self.old.core.members.shape.copies }
         requires ready { AreReady D.tells self.old.logs
-            (map (λ disk. seen_as (D.size disk) (D.stands disk) (D.faults disk)) disks.old) }
-        requires cached { AreCached D.tells self.old.cache self.old.logs
             (map (λ disk. seen_as (D.size disk) (D.stands disk) (D.faults disk)) disks.old) }
 
         // The events that are due for the line, and no others; of a line that asks to reclaim
@@ -87,7 +87,81 @@ impl Cluster {
 
         ensures ready { OnOk result (AreReady D.tells self.new.logs
             (map (λ disk. seen_as (D.size disk) (D.stands disk) (D.faults disk)) disks.new)) }
-        ensures cached { OnOk result (AreCached D.tells self.new.cache self.new.logs
+        ensures count { length disks.new ≡ length disks.old }
+        ensures shape { self.new.core.members.shape ≡ self.old.core.members.shape }
+        ensures moment { OnOk result (self.new.core.moment ≤ watch.new) }
+        ensures ticks { watch.old ≤ watch.new }
+    {
+        let mut cache = None;
+        self.run_cached(&mut cache, naming, disks, watch, line, command)
+    }
+
+    /// The same, with blocks that were read lately: a Read of one of these is told without a call of the
+    /// disk. None has no cache. What is handed over is what the last call left, or an empty cache.
+    #[tactic(auto)]
+    pub fn run_cached<A: Addresser, D: Disk>(
+        &mut self,
+        cache: &mut Option<Cache>,
+        naming: &A,
+        disks: &mut [D],
+        watch: &mut Watch,
+        line: u64,
+        command: Command,
+    ) -> Result<(), ClusterFault>
+        requires line { self.old.core.progress.last_line < line }
+        requires moment { self.old.core.moment ≤ watch.old }
+        requires count { length disks.old
+            ≡ self.old.core.members.shape.shards * self.old.core.members.shape.copies }
+        requires ready { AreReady D.tells self.old.logs
+            (map (λ disk. seen_as (D.size disk) (D.stands disk) (D.faults disk)) disks.old) }
+        requires cached { AreCached D.tells cache.old self.old.logs
+            (map (λ disk. seen_as (D.size disk) (D.stands disk) (D.faults disk)) disks.old) }
+
+        // The events that are due for the line, and no others; of a line that asks to reclaim
+        // nothing is said.
+        ensures runs { self.old.core.ended ≡ None → is_served command ≡ true
+            → RunsLine (A.name naming.now) line command watch.old watch.new
+            self.old self.new result
+            (Shows D.tells (record {
+              before = watch.old;
+              now = watch.new;
+              old = self.old;
+              new = self.new;
+              disks = map (λ disk. seen_as (D.size disk) (D.stands disk) (D.faults disk)) disks.old;
+              left = map (λ disk. seen_as (D.size disk) (D.stands disk) (D.faults disk)) disks.new;
+            }) result) }
+        ensures ended { (fault : CoreFault) → self.old.core.ended ≡ Some fault
+            → (result ≡ Err (of_core fault)) × (self.new ≡ self.old)
+            × (disks.new ≡ disks.old) × (watch.new ≡ watch.old) }
+
+        // But for turns and `settle` the disks are as they were.
+        ensures still { uses_disks command ≡ false
+            → (disks.new ≡ disks.old) × (watch.new ≡ watch.old) }
+
+        // A turn works on the disk of its peer, and reads that of the lead in a copying step: each other
+        // one stays as it is.
+        ensures beside { (peer : ℕ) → command ≡ Turn peer → StandsBeside D.tells peer
+            (first_job peer self.old.core)
+            (map (λ disk. seen_as (D.size disk) (D.stands disk) (D.faults disk)) disks.old)
+            (map (λ disk. seen_as (D.size disk) (D.stands disk) (D.faults disk)) disks.new) }
+        // A line that has a peer fail puts its log out of use, and no other.
+        ensures falls { (peer : ℕ) → command ≡ Fail peer → (p : ℕ) → p ≢ peer
+            → log_at self.new.logs p ≡ log_at self.old.logs p }
+
+        // The list of a peer that is not joining only goes on, as long as its log is in use; and nobody
+        // begins to join but by a line that starts it.
+        ensures goes_on { D.tells → (peer : ℕ) → is_joining (status_of peer self.old.core) ≡ false
+            → GoesOn self.old.logs
+            (map (λ disk. seen_as (D.size disk) (D.stands disk) (D.faults disk)) disks.old)
+            self.new.logs
+            (map (λ disk. seen_as (D.size disk) (D.stands disk) (D.faults disk)) disks.new) peer }
+        ensures joins { (peer : ℕ) → command ≢ Start peer
+            → is_joining (status_of peer self.old.core) ≡ false
+            → OnOk result (is_joining (status_of peer self.new.core) ≡ false) }
+
+        ensures ready { OnOk result (AreReady D.tells self.new.logs
+            (map (λ disk. seen_as (D.size disk) (D.stands disk) (D.faults disk)) disks.new)) }
+        ensures cached { OnOk result (AreCached D.tells cache.new self.new.logs
             (map (λ disk. seen_as (D.size disk) (D.stands disk) (D.faults disk)) disks.new)) }
         ensures count { length disks.new ≡ length disks.old }
         ensures shape { self.new.core.members.shape ≡ self.old.core.members.shape }
@@ -100,8 +174,8 @@ impl Cluster {
         let moment = watch.now();
         match command {
             Command::Client(op) => self.ask(naming, line, op, moment),
-            Command::Settle => self.settle(disks, watch, line, true),
-            Command::Turn { peer } => self.turn(disks, watch, line, peer),
+            Command::Settle => self.settle(cache, disks, watch, line, true),
+            Command::Turn { peer } => self.turn(cache, disks, watch, line, peer),
             Command::Nudge { peer } => self.step(Event::Nudge { line, peer }, moment),
             Command::Deliver { message } => self.step(Event::Deliver { line, message }, moment),
             Command::Lose { message } => self.step(Event::Lose { line, message }, moment),
@@ -136,7 +210,6 @@ impl Cluster {
               left = disks;
             }) result) }
         ensures logs { self.new.logs ≡ self.old.logs }
-        ensures cache { self.new.cache ≡ self.old.cache }
         ensures joins { (p : ℕ) → is_joining (status_of p self.old.core) ≡ false
             → OnOk result (is_joining (status_of p self.new.core) ≡ false) }
         ensures shape { self.new.core.members.shape ≡ self.old.core.members.shape }
@@ -162,7 +235,6 @@ impl Cluster {
             }) result) }
         ensures logs { (p : ℕ) (keeping : Keeping) → log_at self.new.logs p ≡ Some keeping
             → log_at self.old.logs p ≡ Some keeping }
-        ensures cache { self.new.cache ≡ self.old.cache }
         ensures own { OnOk result (log_at self.new.logs peer ≡ None) }
         ensures others { (p : ℕ) → p ≢ peer
             → log_at self.new.logs p ≡ log_at self.old.logs p }
@@ -181,7 +253,6 @@ impl Cluster {
     fn put_out(&mut self, peer: u8)
         ensures core { self.new.core ≡ self.old.core }
         ensures course { self.new.course ≡ self.old.course }
-        ensures cache { self.new.cache ≡ self.old.cache }
         ensures own { log_at self.new.logs peer ≡ None }
         ensures others { (p : ℕ) → p ≢ peer
             → log_at self.new.logs p ≡ log_at self.old.logs p }
@@ -198,6 +269,7 @@ impl Cluster {
     /// of the oldest message for it, else nothing.
     fn turn<D: Disk>(
         &mut self,
+        cache: &mut Option<Cache>,
         disks: &mut [D],
         watch: &mut Watch,
         line: u64,
@@ -209,7 +281,7 @@ impl Cluster {
             ≡ self.old.core.members.shape.shards * self.old.core.members.shape.copies }
         requires ready { AreReady D.tells self.old.logs
             (map (λ disk. seen_as (D.size disk) (D.stands disk) (D.faults disk)) disks.old) }
-        requires cached { AreCached D.tells self.old.cache self.old.logs
+        requires cached { AreCached D.tells cache.old self.old.logs
             (map (λ disk. seen_as (D.size disk) (D.stands disk) (D.faults disk)) disks.old) }
         ensures runs { (name : List ℕ → Address) → RunsLine name line (command.Turn peer)
             watch.old watch.new self.old self.new result
@@ -233,7 +305,7 @@ impl Cluster {
             → OnOk result (is_joining (status_of p self.new.core) ≡ false) }
         ensures ready { OnOk result (AreReady D.tells self.new.logs
             (map (λ disk. seen_as (D.size disk) (D.stands disk) (D.faults disk)) disks.new)) }
-        ensures cached { OnOk result (AreCached D.tells self.new.cache self.new.logs
+        ensures cached { OnOk result (AreCached D.tells cache.new self.new.logs
             (map (λ disk. seen_as (D.size disk) (D.stands disk) (D.faults disk)) disks.new)) }
         ensures count { length disks.new ≡ length disks.old }
         ensures shape { self.new.core.members.shape ≡ self.old.core.members.shape }
@@ -242,7 +314,7 @@ impl Cluster {
     {
         self.step(Event::Turn { line, peer }, watch.now())?;
         match turn_behind(&self.core, peer) {
-            Some(due) => self.do_due(disks, watch, line, due),
+            Some(due) => self.do_due(cache, disks, watch, line, due),
             None => Ok(()),
         }
     }

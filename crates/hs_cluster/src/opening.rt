@@ -1,7 +1,6 @@
 //! Opening a cluster.
 ghost use Rattle.std.specs.Prelude.{◌≡◌, ◌*◌, ◌++◌, ◌<◌, ◌≤◌, ℕ, None, false, flat_map, is_some, length, map, IfErr, IfOk, OnErr, OnOk};
 ghost use Rattle.hs_cluster.specs.Begins.{Begins, HasOpened, IsClosed, bad_of, begun_course, good_of, is_took, of_taking, opened_with, took_of};
-ghost use Rattle.hs_cluster.specs.Cached.{AreCached};
 ghost use Rattle.hs_cluster.specs.Counts.{NoneFalls};
 ghost use Rattle.hs_cluster.specs.Disks.{AreReady, log_at, seen_as, seen_at};
 ghost use Rattle.hs_cluster.specs.Opens.{Opens};
@@ -52,7 +51,7 @@ impl Cluster {
     /// Opens a cluster: reads every disk, takes the log of each shard, opens the core over them, and
     /// does turns until nobody has one. A disk that fails, or is no log, is out of use. A disk of
     /// another store, or of another peer, ends it before anything is written. Where the core has ended,
-    /// or memory ran out on the turns, the cluster has what was answered so far. It has no cache yet.
+    /// or memory ran out on the turns, the cluster has what was answered so far.
     #[tactic(auto, using(crate::proofs::RecallLemmas::no_cache))]
     pub fn open<A: Addresser, D: Disk>(
         alloc: Global,
@@ -126,9 +125,6 @@ impl Cluster {
         ensures ready { IfOk result (λ opened. OnOk opened.done (AreReady D.tells
             opened.cluster.logs
             (map (λ disk. seen_as (D.size disk) (D.stands disk) (D.faults disk)) disks.new))) }
-        ensures cached { IfOk result (λ opened. OnOk opened.done (AreCached D.tells
-            opened.cluster.cache opened.cluster.logs
-            (map (λ disk. seen_as (D.size disk) (D.stands disk) (D.faults disk)) disks.new))) }
         ensures shape { IfOk result (λ opened. opened.cluster.core.members.shape ≡ shape) }
         ensures moment { IfOk result (λ opened. OnOk opened.done
             (opened.cluster.core.moment ≤ watch.new)) }
@@ -151,7 +147,8 @@ impl Cluster {
             }
             None => {}
         }
-        let done = cluster.settle(disks, watch, 0, false);
+        let mut cache = None;
+        let done = cluster.settle(&mut cache, disks, watch, 0, false);
         Ok(Opened { cluster, done })
     }
 
@@ -198,7 +195,6 @@ impl Cluster {
             disks.new) peer) }
         ensures ready { IfOk result (λ cluster. AreReady D.tells cluster.logs
             (map (λ disk. seen_as (D.size disk) (D.stands disk) (D.faults disk)) disks.new)) }
-        ensures cached { IfOk result (λ cluster. cluster.cache ≡ None) }
         ensures shape { IfOk result (λ cluster. cluster.core.members.shape ≡ shape) }
         ensures moment { IfOk result (λ cluster. cluster.core.moment ≡ watch.new) }
         ensures counted { NoneFalls
@@ -247,7 +243,6 @@ fn begun(
         (record { logs = taking.logs.items; shares = taking.shares.items })) }
     ensures shape { IfOk result (λ cluster. cluster.core.members.shape ≡ shape) }
     ensures moment { IfOk result (λ cluster. cluster.core.moment ≡ moment) }
-    ensures cached { IfOk result (λ cluster. cluster.cache ≡ None) }
     ensures only { IfErr result (λ fault. fault ≡ ClusterFault.NoMemory) }
 {
     let Taking { logs, shares } = taking;
@@ -271,7 +266,6 @@ fn begun(
         core,
         logs,
         course,
-        cache: None,
     })
 }
 

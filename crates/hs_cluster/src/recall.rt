@@ -1,6 +1,7 @@
 //! The first job of a peer, where blocks that were read lately are cached.
 ghost use Rattle.std.specs.Prelude.{◌≡◌, ◌*◌, ◌≤◌, ℕ, None, Option, Some, length, map, true, false, IfOk, IfSome, IsOkUnless, IsSome, OnOk};
-ghost use Rattle.hs_cluster.specs.Cached.{AreCached, HasNoMore, IsRecalled, Remembers};
+ghost use Rattle.hs_cache.specs.Cached.{HasNoMore};
+ghost use Rattle.hs_cluster.specs.Cached.{AreCached, IsRecalled, Remembers};
 ghost use Rattle.hs_cluster.specs.declared.fault.ClusterFault.TheVariants.{NoMemory};
 ghost use Rattle.hs_cluster.specs.Counts.{AllStandUntold, HasAllPaid, HasPaid, NoneFalls};
 ghost use Rattle.hs_cluster.specs.Disks.{AreReady, log_at, seen_as, stands_of};
@@ -20,7 +21,7 @@ ghost use Rattle.hs_side.specs.Headers.{own_header};
 use crate::ClusterFault;
 use crate::job::do_job;
 use crate::work::are_bytes;
-use hs_cache::Cache;
+use hs_cache::{Cache, forget_all, recall, remember};
 use hs_core::Core;
 use hs_desk::{Done, Job};
 use hs_peerlog::PeerLog;
@@ -115,12 +116,12 @@ pub(crate) fn do_first<D: Disk>(
         (map (λ disk. seen_as (D.size disk) (D.stands disk) (D.faults disk)) disks.new)) }
     ensures ticks { watch.old ≤ watch.new }
 {
-    if let Some(done) = recall(core, logs.as_slice(), cache, peer) {
+    if let Some(done) = cached_read(core, logs.as_slice(), cache, peer) {
         return Ok(done);
     }
     match do_job(alloc, core, logs, disks, watch, peer) {
         Ok(done) => {
-            remember(cache, peer, &done);
+            keep_told(cache, peer, &done);
             Ok(done)
         }
         Err(fault) => Err(fault),
@@ -130,7 +131,7 @@ pub(crate) fn do_first<D: Disk>(
 /// What is cached for the first job of a peer, which is a Read then. Its log is in use: without one
 /// no job is done. It takes no memory, and no call of a disk.
 #[tactic(auto)]
-fn recall(
+fn cached_read(
     core: &Core,
     logs: &[Option<PeerLog>],
     cache: &mut Option<Cache>,
@@ -151,38 +152,24 @@ fn recall(
     if logs[usize::from(peer)].is_none() {
         return None;
     }
-    let Some(kept) = cache else {
+    let Some(bytes) = recall(cache, peer, *number) else {
         return None;
     };
-    match kept.get(peer, *number) {
-        Ok(Some(bytes)) => {
-            are_bytes(bytes.as_slice());
-            Some(Done::Bytes {
-                number: *number,
-                bytes,
-            })
-        }
-        Ok(None) | Err(_) => None,
-    }
+    are_bytes(bytes.as_slice());
+    Some(Done::Bytes {
+        number: *number,
+        bytes,
+    })
 }
 
 /// Caches what was read from the disk of a peer. Nothing stays cached where a disk was emptied.
 #[tactic(auto)]
-fn remember(cache: &mut Option<Cache>, peer: u8, done: &Done)
-    ensures { Remembers peer done.now cache.old cache.new }
+fn keep_told(cache: &mut Option<Cache>, peer: u8, told: &Done)
+    ensures { Remembers peer told.now cache.old cache.new }
 {
-    let Some(kept) = cache else {
-        return;
-    };
-    match done {
-        Done::Bytes { number, bytes } => {
-            let Ok(bytes) = bytes.copy() else {
-                return;
-            };
-            // A block that there is no memory to cache is read from its disk again.
-            let _kept = kept.put(peer, *number, bytes);
-        }
-        Done::Emptied => kept.clear(),
+    match told {
+        Done::Bytes { number, bytes } => remember(cache, peer, *number, bytes),
+        Done::Emptied => forget_all(cache),
         Done::Stored { .. }
         | Done::Sealed { .. }
         | Done::Gone { .. }

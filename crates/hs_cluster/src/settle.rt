@@ -15,6 +15,7 @@ ghost use Rattle.hs_members.specs.Members.{IsPeer, all_peers, is_joining};
 
 use crate::recall::do_first;
 use crate::{Cluster, ClusterFault};
+use hs_cache::Cache;
 use hs_core::Core;
 use hs_core_words::Event;
 use hs_events::{Due, Place, knowns_of, next_due, next_turn, peers_of, place_after, raises_known};
@@ -26,6 +27,7 @@ impl Cluster {
     /// `u64::MAX` counts as want of memory.
     pub(crate) fn settle<D: Disk>(
         &mut self,
+        cache: &mut Option<Cache>,
         disks: &mut [D],
         watch: &mut Watch,
         line: u64,
@@ -37,7 +39,7 @@ impl Cluster {
             ≡ self.old.core.members.shape.shards * self.old.core.members.shape.copies }
         requires ready { AreReady D.tells self.old.logs
             (map (λ disk. seen_as (D.size disk) (D.stands disk) (D.faults disk)) disks.old) }
-        requires cached { AreCached D.tells self.old.cache self.old.logs
+        requires cached { AreCached D.tells cache.old self.old.logs
             (map (λ disk. seen_as (D.size disk) (D.stands disk) (D.faults disk)) disks.old) }
         ensures walks { RunsWalk nudges line watch.old watch.new self.old self.new result
             (Shows D.tells (record {
@@ -57,7 +59,7 @@ impl Cluster {
             → OnOk result (is_joining (status_of p self.new.core) ≡ false) }
         ensures ready { OnOk result (AreReady D.tells self.new.logs
             (map (λ disk. seen_as (D.size disk) (D.stands disk) (D.faults disk)) disks.new)) }
-        ensures cached { OnOk result (AreCached D.tells self.new.cache self.new.logs
+        ensures cached { OnOk result (AreCached D.tells cache.new self.new.logs
             (map (λ disk. seen_as (D.size disk) (D.stands disk) (D.faults disk)) disks.new)) }
         ensures count { length disks.new ≡ length disks.old }
         ensures shape { self.new.core.members.shape ≡ self.old.core.members.shape }
@@ -73,7 +75,7 @@ impl Cluster {
             let Some(due) = due_of(&self.core, place, nudges) else {
                 return Ok(());
             };
-            self.move_on(disks, watch, line, due, &mut place)?;
+            self.move_on(cache, disks, watch, line, due, &mut place)?;
         }
         Err(ClusterFault::NoMemory)
     }
@@ -82,6 +84,7 @@ impl Cluster {
     #[tactic(auto, using(crate::proofs::WalkLemmas::nothing_due))]
     fn move_on<D: Disk>(
         &mut self,
+        cache: &mut Option<Cache>,
         disks: &mut [D],
         watch: &mut Watch,
         line: u64,
@@ -95,7 +98,7 @@ impl Cluster {
             ≡ self.old.core.members.shape.shards * self.old.core.members.shape.copies }
         requires ready { AreReady D.tells self.old.logs
             (map (λ disk. seen_as (D.size disk) (D.stands disk) (D.faults disk)) disks.old) }
-        requires cached { AreCached D.tells self.old.cache self.old.logs
+        requires cached { AreCached D.tells cache.old self.old.logs
             (map (λ disk. seen_as (D.size disk) (D.stands disk) (D.faults disk)) disks.old) }
         ensures does { DoesDue line due watch.old watch.new self.old self.new result
             (Shows D.tells (record {
@@ -117,7 +120,7 @@ impl Cluster {
             → OnOk result (is_joining (status_of p self.new.core) ≡ false) }
         ensures ready { OnOk result (AreReady D.tells self.new.logs
             (map (λ disk. seen_as (D.size disk) (D.stands disk) (D.faults disk)) disks.new)) }
-        ensures cached { OnOk result (AreCached D.tells self.new.cache self.new.logs
+        ensures cached { OnOk result (AreCached D.tells cache.new self.new.logs
             (map (λ disk. seen_as (D.size disk) (D.stands disk) (D.faults disk)) disks.new)) }
         ensures count { length disks.new ≡ length disks.old }
         ensures shape { self.new.core.members.shape ≡ self.old.core.members.shape }
@@ -127,7 +130,7 @@ impl Cluster {
         let Ok(knowns) = knowns_of(self.alloc, &self.core, peers_of(&self.core)) else {
             return Err(ClusterFault::NoMemory);
         };
-        self.do_due(disks, watch, line, due)?;
+        self.do_due(cache, disks, watch, line, due)?;
         let raised = raises_known(&self.core, knowns.as_slice());
         *place = place_after(due, raised, *place);
         Ok(())
@@ -136,6 +139,7 @@ impl Cluster {
     /// Does what is due for a line: a job with its report, the handling of a message, or a nudge.
     pub(crate) fn do_due<D: Disk>(
         &mut self,
+        cache: &mut Option<Cache>,
         disks: &mut [D],
         watch: &mut Watch,
         line: u64,
@@ -148,7 +152,7 @@ impl Cluster {
             ≡ self.old.core.members.shape.shards * self.old.core.members.shape.copies }
         requires ready { AreReady D.tells self.old.logs
             (map (λ disk. seen_as (D.size disk) (D.stands disk) (D.faults disk)) disks.old) }
-        requires cached { AreCached D.tells self.old.cache self.old.logs
+        requires cached { AreCached D.tells cache.old self.old.logs
             (map (λ disk. seen_as (D.size disk) (D.stands disk) (D.faults disk)) disks.old) }
         ensures does { DoesDue line due watch.old watch.new self.old self.new result
             (Shows D.tells (record {
@@ -171,7 +175,7 @@ impl Cluster {
             → OnOk result (is_joining (status_of p self.new.core) ≡ false) }
         ensures ready { OnOk result (AreReady D.tells self.new.logs
             (map (λ disk. seen_as (D.size disk) (D.stands disk) (D.faults disk)) disks.new)) }
-        ensures cached { OnOk result (AreCached D.tells self.new.cache self.new.logs
+        ensures cached { OnOk result (AreCached D.tells cache.new self.new.logs
             (map (λ disk. seen_as (D.size disk) (D.stands disk) (D.faults disk)) disks.new)) }
         ensures count { length disks.new ≡ length disks.old }
         ensures shape { self.new.core.members.shape ≡ self.old.core.members.shape }
@@ -179,7 +183,7 @@ impl Cluster {
         ensures ticks { watch.old ≤ watch.new }
     {
         match due {
-            Due::Reporting { peer } => self.report(disks, watch, peer),
+            Due::Reporting { peer } => self.report(cache, disks, watch, peer),
             Due::Handling { message, .. } => {
                 self.step(Event::Deliver { line, message }, watch.now())
             }
@@ -191,6 +195,7 @@ impl Cluster {
     #[tactic(auto, using(crate::proofs::WalkLemmas::nothing_due))]
     fn report<D: Disk>(
         &mut self,
+        cache: &mut Option<Cache>,
         disks: &mut [D],
         watch: &mut Watch,
         peer: u8,
@@ -202,7 +207,7 @@ impl Cluster {
             ≡ self.old.core.members.shape.shards * self.old.core.members.shape.copies }
         requires ready { AreReady D.tells self.old.logs
             (map (λ disk. seen_as (D.size disk) (D.stands disk) (D.faults disk)) disks.old) }
-        requires cached { AreCached D.tells self.old.cache self.old.logs
+        requires cached { AreCached D.tells cache.old self.old.logs
             (map (λ disk. seen_as (D.size disk) (D.stands disk) (D.faults disk)) disks.old) }
         ensures does { (line : ℕ) → DoesDue line (Reporting peer) watch.old watch.new
             self.old self.new result
@@ -226,7 +231,7 @@ impl Cluster {
             → OnOk result (is_joining (status_of p self.new.core) ≡ false) }
         ensures ready { OnOk result (AreReady D.tells self.new.logs
             (map (λ disk. seen_as (D.size disk) (D.stands disk) (D.faults disk)) disks.new)) }
-        ensures cached { OnOk result (AreCached D.tells self.new.cache self.new.logs
+        ensures cached { OnOk result (AreCached D.tells cache.new self.new.logs
             (map (λ disk. seen_as (D.size disk) (D.stands disk) (D.faults disk)) disks.new)) }
         ensures count { length disks.new ≡ length disks.old }
         ensures shape { self.new.core.members.shape ≡ self.old.core.members.shape }
@@ -237,7 +242,7 @@ impl Cluster {
             self.alloc,
             &self.core,
             &mut self.logs,
-            &mut self.cache,
+            cache,
             disks,
             watch,
             peer,

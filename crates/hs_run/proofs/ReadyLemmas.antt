@@ -54,3 +54,9 @@ command_ready tells name asked old new result h runs ready moment shape count =
     go (Err fault) (Ok y) ready moment outcome core = tt
     go (Ok x) (Err halt) ready moment outcome core = tt
     go (Err fault) (Err halt) ready moment outcome core = tt
+
+-- what is so of a line that was done is so where all of it was put
+pub on_did : (did : Result ⊤ ClusterFault) (put : Result ⊤ Stop) (P : Type 0) → OnOk did P → OnOk (end_of did put) P
+on_did (Ok x) (Ok y) P p = p
+on_did (Err fault) (Ok y) P p = tt
+on_did did (Err stop) P p = tt

@@ -1,5 +1,7 @@
 //! A run of a script over its cluster, and what one line does to it.
-ghost use Rattle.std.specs.Prelude.{◌≡◌, ◌+◌, ◌<◌, ◌^◌, ◌≤◌, drop, length, map, true, Err, IfErr, OnOk};
+ghost use Rattle.std.specs.Prelude.{◌≡◌, ◌+◌, ◌<◌, ◌^◌, ◌≤◌, [], drop, length, map, true, Err, IfErr, None, OnOk};
+ghost use Rattle.hs_cache.specs.Cached.{pairs_of};
+ghost use Rattle.hs_cluster.specs.Cached.{AreCached};
 ghost use Rattle.hs_cluster.specs.Disks.{seen_as};
 ghost use Rattle.hs_events.specs.Commands.{is_served};
 ghost use Rattle.hs_run.specs.Between.{IsReadyAt};
@@ -14,6 +16,7 @@ use crate::kinds::is_served;
 use crate::put::{put_all, write_lines};
 use crate::stop::{Stop, end_of};
 use hs_block::Addresser;
+use hs_cache::{Cache, CacheFault};
 use hs_cluster::{Cluster, ClusterFault};
 use hs_model::Command;
 use hs_ports::{Disk, Sink, Watch};
@@ -47,31 +50,52 @@ fn print<K: Sink>(
     put_all(sink, watch, bytes.as_slice())
 }
 
-/// A run: its cluster, how many entries of the journal were put, the number of the last line that was
-/// begun, and what is put.
+/// A run: its cluster, the blocks that were read lately, how many entries of the journal were put, the
+/// number of the last line that was begun, and what is put.
 #[derive(Drop)]
 pub(crate) struct Run {
     pub(crate) alloc: Global,
     pub(crate) cluster: Cluster,
+    pub(crate) cache: Option<Cache>,
     pub(crate) printed: usize,
     pub(crate) line: u64,
     pub(crate) bytes: Vec<u8>,
 }
 
 impl Run {
-    /// A run before its first line. It takes no memory.
+    /// A run before its first line, without a cache. It takes no memory.
     pub(crate) fn new(alloc: Global, cluster: Cluster) -> Run
         ensures cluster { result.cluster ≡ cluster }
+        ensures cache { result.cache ≡ None }
         ensures printed { result.printed ≡ 0 }
         ensures line { result.line ≡ 0 }
     {
         Run {
             alloc,
             cluster,
+            cache: None,
             printed: 0,
             line: 0,
             bytes: Vec::new(alloc),
         }
+    }
+
+    /// Caches at most so many blocks that are read from now on; 0 asks for no cache.
+    pub(crate) fn use_cache(&mut self, blocks: u32) -> Result<(), Stop>
+        ensures cluster { self.new.cluster ≡ self.old.cluster }
+        ensures printed { self.new.printed ≡ self.old.printed }
+        ensures line { self.new.line ≡ self.old.line }
+        ensures empty { self.old.cache ≡ None → pairs_of self.new.cache ≡ [] }
+        ensures only { IfErr result (λ stop. stop ≡ Stop.NoMemory) }
+    {
+        if blocks == 0 {
+            return Ok(());
+        }
+        match Cache::new(self.alloc, blocks) {
+            Ok(cache) => self.cache = Some(cache),
+            Err(CacheFault::NoMemory) => return Err(Stop::NoMemory),
+        }
+        Ok(())
     }
 
     /// Puts what opening has answered. It stops where opening did not come to its end.
@@ -91,6 +115,7 @@ impl Run {
         ensures printed { OnOk result
             (self.new.printed ≡ length self.new.cluster.core.journal) }
         ensures cluster { self.new.cluster ≡ self.old.cluster }
+        ensures cache { self.new.cache ≡ self.old.cache }
         ensures line { self.new.line ≡ self.old.line }
         ensures cause { SinkCause (K.faults sink.old) (K.faults sink.new) result }
     {
@@ -116,6 +141,8 @@ impl Run {
         requires served { is_served command ≡ true }
         requires room { self.old.line < 2 ^ 63 }
         requires printed { self.old.printed ≡ length self.old.cluster.core.journal }
+        requires cached { AreCached D.tells self.old.cache self.old.cluster.logs
+            (map (λ disk. seen_as (D.size disk) (D.stands disk) (D.faults disk)) disks.old) }
         requires ready { IsReadyAt D.tells (record {
           now = watch.old;
           cluster = self.old.cluster;
@@ -140,6 +167,8 @@ impl Run {
           };
           result = result;
         }) }
+        ensures cached { OnOk result (AreCached D.tells self.new.cache self.new.cluster.logs
+            (map (λ disk. seen_as (D.size disk) (D.stands disk) (D.faults disk)) disks.new)) }
         ensures ready { OnOk result (IsReadyAt D.tells (record {
           now = watch.new;
           cluster = self.new.cluster;
@@ -153,7 +182,14 @@ impl Run {
         ensures cause { SinkCause (K.faults sink.old) (K.faults sink.new) result }
     {
         self.line += 1;
-        let did = self.cluster.run(naming, disks, watch, self.line, command);
+        let did = self.cluster.run_cached(
+            &mut self.cache,
+            naming,
+            disks,
+            watch,
+            self.line,
+            command,
+        );
         let put = print(
             &self.cluster,
             &mut self.printed,
@@ -175,6 +211,8 @@ impl Run {
     ) -> Result<(), Stop>
         requires room { self.old.line < 2 ^ 63 }
         requires printed { self.old.printed ≡ length self.old.cluster.core.journal }
+        requires cached { AreCached D.tells self.old.cache self.old.cluster.logs
+            (map (λ disk. seen_as (D.size disk) (D.stands disk) (D.faults disk)) disks.old) }
         requires ready { IsReadyAt D.tells (record {
           now = watch.old;
           cluster = self.old.cluster;
@@ -199,6 +237,8 @@ impl Run {
           };
           result = result;
         }) }
+        ensures cached { OnOk result (AreCached D.tells self.new.cache self.new.cluster.logs
+            (map (λ disk. seen_as (D.size disk) (D.stands disk) (D.faults disk)) disks.new)) }
         ensures ready { OnOk result (IsReadyAt D.tells (record {
           now = watch.new;
           cluster = self.new.cluster;

@@ -1,5 +1,6 @@
 //! The loop over the lines of a script.
 ghost use Rattle.std.specs.Prelude.{◌≡◌, ◌<◌, ◌^◌, ◌≤◌, [], false, length, map, IfSome};
+ghost use Rattle.hs_cluster.specs.Cached.{AreCached};
 ghost use Rattle.hs_cluster.specs.Disks.{seen_as};
 ghost use Rattle.hs_run.specs.Between.{IsReadyAt};
 ghost use Rattle.hs_run.specs.Causes.{EndsBy, StopCause};
@@ -28,6 +29,8 @@ pub(crate) fn serve<A: Addresser, S: Source, K: Sink, D: Disk>(
     requires ended { reader.old.ended ≡ false }
     requires cost { cost reader.old ≡ input_limit }
     requires printed { run.old.printed ≡ length run.old.cluster.core.journal }
+    requires cached { AreCached D.tells run.old.cache run.old.cluster.logs
+        (map (λ disk. seen_as (D.size disk) (D.stands disk) (D.faults disk)) disks.old) }
     requires ready { IsReadyAt D.tells (record {
       now = watch.old;
       cluster = run.old.cluster;

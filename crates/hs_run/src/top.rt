@@ -1,5 +1,5 @@
 //! A run of a script on the disks of a store.
-ghost use Rattle.std.specs.Prelude.{◌≡◌, ◌*◌, ◌<◌, ◌^◌, ℕ, false, is_ok, length, map, true, Option, IfSome};
+ghost use Rattle.std.specs.Prelude.{◌≡◌, ◌*◌, ◌<◌, ◌^◌, None, ℕ, false, is_ok, length, map, true, Option, IfSome};
 ghost use Rattle.hs_cluster.specs.Calls.{outcome_by, ran_out};
 ghost use Rattle.hs_cluster.specs.Disks.{seen_as};
 ghost use Rattle.hs_limits.specs.Shape.{IsShape};
@@ -26,10 +26,12 @@ use std::alloc::Global;
 /// How many bytes a script may have.
 const INPUT_MOST: u64 = 4_294_967_296;
 
-/// Prints what opening has answered, and then runs the script, where opening came to its end.
+/// Prints what opening has answered, and then runs the script, where opening came to its end. At most
+/// so many blocks are cached; where there is no memory for it nothing of the script is read.
 fn go<A: Addresser, S: Source, K: Sink, D: Disk>(
     run: &mut Run,
     did: Result<(), ClusterFault>,
+    cached: u32,
     naming: &A,
     source: &mut S,
     disks: &mut [D],
@@ -38,6 +40,7 @@ fn go<A: Addresser, S: Source, K: Sink, D: Disk>(
 ) -> Result<(), Stop>
     requires printed { run.old.printed ≡ 0 }
     requires line { run.old.line ≡ 0 }
+    requires cache { run.old.cache ≡ None }
     requires ready { is_ok did ≡ true → IsReadyAt D.tells (record {
       now = watch.old;
       cluster = run.old.cluster;
@@ -80,16 +83,22 @@ fn go<A: Addresser, S: Source, K: Sink, D: Disk>(
         Ok(()) => {}
         Err(stop) => return Err(stop),
     }
+    match run.use_cache(cached) {
+        Ok(()) => {}
+        Err(stop) => return Err(stop),
+    }
     let mut reader = Reader::new(run.alloc, INPUT_MOST);
     serve(run, &mut reader, naming, source, disks, sink, watch)
 }
 
 /// Runs the script that the source has on the disks of a store, one disk for each peer, and puts what
-/// is answered into the sink.
+/// is answered into the sink. At most `cached` blocks that were read lately are kept; 0 asks for none.
+/// Whatever it is, the same is promised.
 pub fn run_script_on<A: Addresser, S: Source, K: Sink, D: Disk>(
     alloc: Global,
     shape: Shape,
     limits: Limits,
+    cached: u32,
     naming: &A,
     source: &mut S,
     sink: &mut K,
@@ -119,10 +128,11 @@ pub fn run_script_on<A: Addresser, S: Source, K: Sink, D: Disk>(
     };
     let Opened { cluster, done } = opened;
     let mut run = Run::new(alloc, cluster);
-    let ended = go(&mut run, done, naming, source, disks, sink, watch);
+    let ended = go(&mut run, done, cached, naming, source, disks, sink, watch);
     let Run {
         alloc: _,
         cluster,
+        cache: _,
         printed: _,
         line,
         bytes: _,

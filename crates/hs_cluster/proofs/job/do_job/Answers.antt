@@ -4,8 +4,9 @@ use Rattle.std.specs.Prelude.{IfOk, IsSome, slice_index_or}
 use Rattle.hs_cluster.proofs.CopyLemmas.{beside_one, beside_same, usual_own, works_cut, works_own, works_reset}
 use Rattle.hs_cluster.proofs.CountLemmas.{all_paid_result, copy_paid_result, falls_not, falls_same, job_paid_result, paid_at, stand_at}
 use Rattle.hs_cluster.proofs.DiskLemmas.{log_read, not_own, reads_at, since_of, slot_at, stored_as, works_at, works_nothing}
-use Rattle.hs_cluster.proofs.GrowingLemmas.{goes_at, goes_same, slot_gone, unless_any, unless_emptied}
+use Rattle.hs_cluster.proofs.GrowingLemmas.{goes_at, goes_same, slot_gone}
 use Rattle.hs_cluster.proofs.HeadLemmas.{heads_at, heads_stay}
+use Rattle.hs_cluster.proofs.RecallLemmas.{unless_any, unless_emptied}
 use Rattle.hs_cluster.specs.Disks.{DiskSeen, log_at, seen_as}
 use Rattle.hs_cluster.specs.declared.fault.ClusterFault.TheVariants.{NoMemory}
 use Rattle.hs_cluster.specs.Headed.{IsHeaded, StaysHeaded}

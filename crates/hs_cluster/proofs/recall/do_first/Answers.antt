@@ -1,10 +1,11 @@
-use Rattle.std.proofs.Common.{◌≡◌, map, refl}
+use Rattle.std.proofs.Common.{◌≡◌, map, refl, subst}
 use Rattle.hs_cluster.proofs.CopyLemmas.{beside_same}
 use Rattle.hs_cluster.proofs.CountLemmas.{falls_same}
 use Rattle.hs_cluster.proofs.DiskLemmas.{since_of}
 use Rattle.hs_cluster.proofs.GrowingLemmas.{goes_same}
 use Rattle.hs_cluster.proofs.HeadLemmas.{heads_stay}
 use Rattle.hs_cluster.proofs.RecallLemmas.{cached_less, cached_told, recalled_all_paid, recalled_answer, recalled_bytes, recalled_paid, recalled_reads, recalled_works, told_there}
+use Rattle.hs_cluster.specs.Cached.{IsRecalled}
 use Rattle.hs_cluster.specs.Disks.{DiskSeen, seen_as}
 use Rattle.hs_core_words.specs.Looking.{first_job}
 use Rattle.hs_side.specs.Headers.{own_header}
@@ -15,13 +16,13 @@ use Rattle.hs_cluster.proofs.recall.do_first.Goals as goal
 pub returns-in-Some-clause-cached : goal.returns-in-Some-clause-cached
 returns-in-Some-clause-cached g c =
     let f : g.row.D.Denot → DiskSeen = λ disk. seen_as (g.D.Disk.size disk) (g.D.Disk.stands disk) (g.D.Disk.faults disk) in
-    cached_less g.D.Disk.tells c.args.cache.now c.recall.new.cache c.args.logs.now.items (map f c.args.disks.now) c.requires.cached c.recall.ensures.fewer
+    cached_less g.D.Disk.tells c.args.cache.now c.cached_read.new.cache c.args.logs.now.items (map f c.args.disks.now) c.requires.cached c.cached_read.ensures.fewer
 
 pub returns-in-Ok-clause-cached : goal.returns-in-Ok-clause-cached
 returns-in-Ok-clause-cached g c =
     let f : g.row.D.Denot → DiskSeen = λ disk. seen_as (g.D.Disk.size disk) (g.D.Disk.stands disk) (g.D.Disk.faults disk) in
     cached_told g.D.Disk.tells c.args.logs.now.items c.do_job.new.logs.items (map f c.args.disks.now) (map f c.do_job.new.disks) c.args.peer c.requires.ready
-    c.args.cache.now c.recall.new.cache c.remember.new.cache c.in-Ok.done c.requires.cached c.recall.ensures.fewer c.remember.ensures
+    c.args.cache.now c.cached_read.new.cache c.keep_told.new.cache c.in-Ok.done c.requires.cached c.cached_read.ensures.fewer c.keep_told.ensures
     (λ told. c.in-Ok.ensures.keeps told)
     (λ told. told_there g.D.Disk.tells c.args.core.now c.args.peer c.in-Ok.done c.args.logs.now.items c.do_job.new.logs.items (map f c.args.disks.now) (map f c.do_job.new.disks) c.requires.ready told c.in-Ok.ensures.answer
     c.in-Ok.ensures.had (c.in-Ok.ensures.reads told))
@@ -29,15 +30,15 @@ returns-in-Ok-clause-cached g c =
 -- ---- what is told from there
 
 pub returns-in-Some-clause-answer : goal.returns-in-Some-clause-answer
-returns-in-Some-clause-answer g c = recalled_answer c.args.core.now c.args.logs.now.items c.args.cache.now c.args.peer c.in-Some.done c.in-Some.ensures.told
+returns-in-Some-clause-answer g c = recalled_answer c.args.core.now c.args.logs.now.items c.args.cache.now c.args.peer c.in-Some.done (subst (λ l. IsRecalled c.args.core.now l c.args.cache.now c.args.peer c.in-Some.done) c.as_slice.ensures.value c.in-Some.ensures.told)
 
 pub returns-in-Some-clause-bytes : goal.returns-in-Some-clause-bytes
-returns-in-Some-clause-bytes g c = recalled_bytes c.args.core.now c.args.logs.now.items c.args.cache.now c.args.peer c.in-Some.done c.in-Some.ensures.told
+returns-in-Some-clause-bytes g c = recalled_bytes c.args.core.now c.args.logs.now.items c.args.cache.now c.args.peer c.in-Some.done (subst (λ l. IsRecalled c.args.core.now l c.args.cache.now c.args.peer c.in-Some.done) c.as_slice.ensures.value c.in-Some.ensures.told)
 
 pub returns-in-Some-clause-works : goal.returns-in-Some-clause-works
 returns-in-Some-clause-works g c = λ told.
     let f : g.row.D.Denot → DiskSeen = λ disk. seen_as (g.D.Disk.size disk) (g.D.Disk.stands disk) (g.D.Disk.faults disk) in
-    recalled_works c.args.core.now c.args.logs.now.items c.args.cache.now c.args.peer c.in-Some.done c.in-Some.ensures.told g.D.Disk.tells (map f c.args.disks.now) c.requires.cached told
+    recalled_works c.args.core.now c.args.logs.now.items c.args.cache.now c.args.peer c.in-Some.done (subst (λ l. IsRecalled c.args.core.now l c.args.cache.now c.args.peer c.in-Some.done) c.as_slice.ensures.value c.in-Some.ensures.told) g.D.Disk.tells (map f c.args.disks.now) c.requires.cached told
     (own_header c.args.core.now.members.shape c.args.peer) c.args.watch.now (since_of f c.args.disks.now (g.met.D.Disk.since told) c.args.peer)
 
 pub returns-in-Some-clause-beside : goal.returns-in-Some-clause-beside
@@ -63,20 +64,20 @@ returns-in-Some-clause-later g c =
 pub returns-in-Some-clause-paid : goal.returns-in-Some-clause-paid
 returns-in-Some-clause-paid g c =
     let f : g.row.D.Denot → DiskSeen = λ disk. seen_as (g.D.Disk.size disk) (g.D.Disk.stands disk) (g.D.Disk.faults disk) in
-    recalled_paid c.args.core.now c.args.logs.now.items c.args.cache.now c.args.peer c.in-Some.done c.in-Some.ensures.told (map f c.args.disks.now)
+    recalled_paid c.args.core.now c.args.logs.now.items c.args.cache.now c.args.peer c.in-Some.done (subst (λ l. IsRecalled c.args.core.now l c.args.cache.now c.args.peer c.in-Some.done) c.as_slice.ensures.value c.in-Some.ensures.told) (map f c.args.disks.now)
 
 pub returns-in-Some-clause-calm : goal.returns-in-Some-clause-calm
 returns-in-Some-clause-calm g c = λ disk differs. refl
 
 pub returns-in-Some-clause-had : goal.returns-in-Some-clause-had
-returns-in-Some-clause-had g c = λ own. c.in-Some.ensures.told.used
+returns-in-Some-clause-had g c = λ own. (subst (λ l. IsRecalled c.args.core.now l c.args.cache.now c.args.peer c.in-Some.done) c.as_slice.ensures.value c.in-Some.ensures.told).used
 
 pub returns-in-Some-clause-reads : goal.returns-in-Some-clause-reads
 returns-in-Some-clause-reads g c = λ told own list waiting each j at.
     let f : g.row.D.Denot → DiskSeen = λ disk. seen_as (g.D.Disk.size disk) (g.D.Disk.stands disk) (g.D.Disk.faults disk) in
-    recalled_reads c.args.core.now c.args.logs.now.items c.args.cache.now c.args.peer c.in-Some.done c.in-Some.ensures.told g.D.Disk.tells (map f c.args.disks.now) c.requires.cached told list waiting each j at
+    recalled_reads c.args.core.now c.args.logs.now.items c.args.cache.now c.args.peer c.in-Some.done (subst (λ l. IsRecalled c.args.core.now l c.args.cache.now c.args.peer c.in-Some.done) c.as_slice.ensures.value c.in-Some.ensures.told) g.D.Disk.tells (map f c.args.disks.now) c.requires.cached told list waiting each j at
 
 pub returns-in-Some-clause-read : goal.returns-in-Some-clause-read
 returns-in-Some-clause-read g c = λ told own list waiting each stored.
     let f : g.row.D.Denot → DiskSeen = λ disk. seen_as (g.D.Disk.size disk) (g.D.Disk.stands disk) (g.D.Disk.faults disk) in
-    recalled_all_paid c.args.core.now c.args.logs.now.items c.args.cache.now c.args.peer c.in-Some.done c.in-Some.ensures.told (map f c.args.disks.now)
+    recalled_all_paid c.args.core.now c.args.logs.now.items c.args.cache.now c.args.peer c.in-Some.done (subst (λ l. IsRecalled c.args.core.now l c.args.cache.now c.args.peer c.in-Some.done) c.as_slice.ensures.value c.in-Some.ensures.told) (map f c.args.disks.now)

@@ -69,6 +69,7 @@ serving-init g c = record {
   goes = λ b named begun shows. so_far_none g.D.Disk.tells b _ _ begun shows;
   read = if_any _ _ (λ script is. read_none_of script c.args.reader.now (g.S.Source.left c.args.source.now) c.args.run.now.line c.requires.held c.requires.cost c.requires.line is);
   ready = c.requires.ready;
+  cached = c.requires.cached;
   printed = c.requires.printed;
   over = λ is. absurd (false≢true (sym c.requires.ended ∙ is));
   room = omega (arith, c.requires.line, c.requires.cost);
@@ -93,6 +94,7 @@ serving-preserved g c =
           let next = advanced script _ _ _ _ _ _ _ _ told spends _ read c.in-Ok.ensures.stays in
           served_more script _ _ _ _ _ _ told.good next (line_good _ _ _ _ refl does) (line_next _ _ _ _ refl does));
       ready = e.ready;
+      cached = e.cached;
       printed = e.printed;
       over = c.in-Ok.ensures.ended;
       room = omega (arith, e.line, c.serving.invariant.room, shorter);

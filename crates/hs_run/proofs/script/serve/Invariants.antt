@@ -1,4 +1,5 @@
 use Rattle.std.proofs.Common.{◌≡◌, ◌+◌, ◌≤◌, [], IfSome, IsTrue, length, map}
+use Rattle.hs_cluster.specs.Cached.{AreCached}
 use Rattle.hs_cluster.specs.Disks.{seen_as}
 use Rattle.hs_script.specs.Scripts.{input_limit}
 use Rattle.hs_run.specs.Between.{IsReadyAt}
@@ -17,6 +18,7 @@ invariant-serving g l =
           → IsSoFar g.D.Disk.tells b (g.S.Source.left l.fn.source) (record { now = l.watch; cluster = l.run.cluster; disks = map (λ disk. seen_as (g.D.Disk.size disk) (g.D.Disk.stands disk) (g.D.Disk.faults disk)) l.disks; got = g.K.Sink.got l.sink; line = l.run.line });
       read : IfSome (g.S.Source.left l.fn.source) (λ script. IsReadThrough script (pending l.reader (g.S.Source.left l.source)) (cost l.reader) l.reader.ended l.run.line);
       ready : IsReadyAt g.D.Disk.tells (record { now = l.watch; cluster = l.run.cluster; disks = map (λ disk. seen_as (g.D.Disk.size disk) (g.D.Disk.stands disk) (g.D.Disk.faults disk)) l.disks; got = g.K.Sink.got l.sink; line = l.run.line });
+      cached : AreCached g.D.Disk.tells l.run.cache l.run.cluster.logs (map (λ disk. seen_as (g.D.Disk.size disk) (g.D.Disk.stands disk) (g.D.Disk.faults disk)) l.disks);
       printed : l.run.printed ≡ length l.run.cluster.core.journal;
       over : IsTrue l.reader.ended → IfSome (pending l.reader (g.S.Source.left l.source)) (λ all. all ≡ []);
       room : l.run.line + cost l.reader ≤ input_limit;

@@ -61,6 +61,7 @@ go-ended-requires g c =
     record {
       printed = c.new-run.ensures.printed;
       line = c.new-run.ensures.line;
+      cache = c.new-run.ensures.cache;
       ready = λ fine. run_ready g.D.Disk.tells set span c.in-Ok.opened.cluster c.in-Ok.opened.done opens
           (record { now = c.open.new.watch; cluster = c.new-run.result.cluster; disks = map f c.open.new.disks; got = g.K.Sink.got c.args.sink.now; line = c.new-run.result.line }) c.new-run.ensures.cluster refl
           (length-map c.open.new.disks f ∙ c.open.ensures.count ∙ c.requires.count) c.in-Ok.ensures.shape (on_fine _ c.in-Ok.opened.done fine c.in-Ok.ensures.ready) fine;

@@ -81,9 +81,9 @@ returns-in-Nudging-clause-joins g c = λ p apart. c.step-in-Nudging.ensures.join
 pub returns-in-Handling-clause-cached : goal.returns-in-Handling-clause-cached
 returns-in-Handling-clause-cached g c =
     let f : g.row.D.Denot → DiskSeen = λ disk. seen_as (g.D.Disk.size disk) (g.D.Disk.stands disk) (g.D.Disk.faults disk) in
-    always_ok c.step.result (cached_as g.D.Disk.tells c.args.self.now.cache c.step.new.self.cache c.args.self.now.logs c.step.new.self.logs (map f c.args.disks.now) c.requires.cached c.step.ensures.cache c.step.ensures.logs)
+    always_ok c.step.result (cached_as g.D.Disk.tells c.args.cache.now c.args.self.now.logs c.step.new.self.logs (map f c.args.disks.now) c.requires.cached c.step.ensures.logs)
 
 pub returns-in-Nudging-clause-cached : goal.returns-in-Nudging-clause-cached
 returns-in-Nudging-clause-cached g c =
     let f : g.row.D.Denot → DiskSeen = λ disk. seen_as (g.D.Disk.size disk) (g.D.Disk.stands disk) (g.D.Disk.faults disk) in
-    always_ok c.step-in-Nudging.result (cached_as g.D.Disk.tells c.args.self.now.cache c.step-in-Nudging.new.self.cache c.args.self.now.logs c.step-in-Nudging.new.self.logs (map f c.args.disks.now) c.requires.cached c.step-in-Nudging.ensures.cache c.step-in-Nudging.ensures.logs)
+    always_ok c.step-in-Nudging.result (cached_as g.D.Disk.tells c.args.cache.now c.args.self.now.logs c.step-in-Nudging.new.self.logs (map f c.args.disks.now) c.requires.cached c.step-in-Nudging.ensures.logs)

@@ -129,4 +129,4 @@ returns-clause-joins g c = λ p apart. c.step.ensures.joins p refl (subst (λ (r
 pub returns-clause-cached : goal.returns-clause-cached
 returns-clause-cached g c =
     let f : g.row.D.Denot → DiskSeen = λ disk. seen_as (g.D.Disk.size disk) (g.D.Disk.stands disk) (g.D.Disk.faults disk) in
-    always_ok c.step.result (cached_as g.D.Disk.tells c.do_first-done.new.cache c.step.new.self.cache c.do_first-done.new.logs.items c.step.new.self.logs (map f c.do_first-done.new.disks) c.in-Ok.ensures.cached c.step.ensures.cache c.step.ensures.logs)
+    always_ok c.step.result (cached_as g.D.Disk.tells c.do_first-done.new.cache c.do_first-done.new.logs.items c.step.new.self.logs (map f c.do_first-done.new.disks) c.in-Ok.ensures.cached c.step.ensures.logs)

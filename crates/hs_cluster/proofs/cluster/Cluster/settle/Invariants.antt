@@ -25,7 +25,7 @@ invariant-loop-step g l = record {
   joins : (p : ℕ) → is_joining (status_of p l.fn.self.core) ≡ false → is_joining (status_of p l.self.core) ≡ false;
   going : l.self.core.ended ≡ None;
   ready : AreReady g.D.Disk.tells l.self.logs (map (λ disk. seen_as (g.D.Disk.size disk) (g.D.Disk.stands disk) (g.D.Disk.faults disk)) l.disks);
-  cached : AreCached g.D.Disk.tells l.self.cache l.self.logs (map (λ disk. seen_as (g.D.Disk.size disk) (g.D.Disk.stands disk) (g.D.Disk.faults disk)) l.disks);
+  cached : AreCached g.D.Disk.tells l.cache l.self.logs (map (λ disk. seen_as (g.D.Disk.size disk) (g.D.Disk.stands disk) (g.D.Disk.faults disk)) l.disks);
   count : length l.disks ≡ length l.fn.disks;
   shape : l.self.core.members.shape ≡ l.fn.self.core.members.shape;
   moment : l.self.core.moment ≤ l.watch;

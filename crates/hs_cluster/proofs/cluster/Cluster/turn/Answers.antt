@@ -111,4 +111,4 @@ returns-in-Some-clause-joins g c = λ p apart. c.do_due.ensures.joins p (c.in_ok
 pub returns-in-None-clause-cached : goal.returns-in-None-clause-cached
 returns-in-None-clause-cached g c =
     let f : g.row.D.Denot → DiskSeen = λ disk. seen_as (g.D.Disk.size disk) (g.D.Disk.stands disk) (g.D.Disk.faults disk) in
-    cached_as g.D.Disk.tells c.args.self.now.cache c.step.new.self.cache c.args.self.now.logs c.step.new.self.logs (map f c.args.disks.now) c.requires.cached c.step.ensures.cache c.step.ensures.logs
+    cached_as g.D.Disk.tells c.args.cache.now c.args.self.now.logs c.step.new.self.logs (map f c.args.disks.now) c.requires.cached c.step.ensures.logs

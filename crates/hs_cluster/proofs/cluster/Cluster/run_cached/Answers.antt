@@ -11,7 +11,7 @@ use Rattle.hs_cluster.specs.Kept.{Shows}
 use Rattle.hs_core_words.specs.declared.event.Event.{Event}
 use Rattle.hs_core_words.specs.declared.event.Event.TheVariants as event
 use Rattle.hs_model.specs.declared.command.Command.TheVariants as command
-use Rattle.hs_cluster.proofs.cluster.Cluster.run.Goals as goal
+use Rattle.hs_cluster.proofs.cluster.Cluster.run_cached.Goals as goal
 
 pub returns-in-Fail-clause-ready : goal.returns-in-Fail-clause-ready
 returns-in-Fail-clause-ready g c = always_ok c.fail.result (ready_fewer _ c.args.self.now.logs c.fail.new.self.logs _ c.requires.ready c.fail.ensures.logs)
@@ -165,35 +165,34 @@ returns-in-Repeat-clause-joins g c = λ p another apart. c.step-in-Repeat.ensure
 pub returns-in-Client-clause-cached : goal.returns-in-Client-clause-cached
 returns-in-Client-clause-cached g c =
     let f : g.row.D.Denot → DiskSeen = λ disk. seen_as (g.D.Disk.size disk) (g.D.Disk.stands disk) (g.D.Disk.faults disk) in
-    always_ok c.ask.result (cached_as g.D.Disk.tells c.args.self.now.cache c.ask.new.self.cache c.args.self.now.logs c.ask.new.self.logs (map f c.args.disks.now) c.requires.cached c.ask.ensures.cache c.ask.ensures.logs)
+    always_ok c.ask.result (cached_as g.D.Disk.tells c.args.cache.now c.args.self.now.logs c.ask.new.self.logs (map f c.args.disks.now) c.requires.cached c.ask.ensures.logs)
 
 pub returns-in-Nudge-clause-cached : goal.returns-in-Nudge-clause-cached
 returns-in-Nudge-clause-cached g c =
     let f : g.row.D.Denot → DiskSeen = λ disk. seen_as (g.D.Disk.size disk) (g.D.Disk.stands disk) (g.D.Disk.faults disk) in
-    always_ok c.step.result (cached_as g.D.Disk.tells c.args.self.now.cache c.step.new.self.cache c.args.self.now.logs c.step.new.self.logs (map f c.args.disks.now) c.requires.cached c.step.ensures.cache c.step.ensures.logs)
+    always_ok c.step.result (cached_as g.D.Disk.tells c.args.cache.now c.args.self.now.logs c.step.new.self.logs (map f c.args.disks.now) c.requires.cached c.step.ensures.logs)
 
 pub returns-in-Deliver-clause-cached : goal.returns-in-Deliver-clause-cached
 returns-in-Deliver-clause-cached g c =
     let f : g.row.D.Denot → DiskSeen = λ disk. seen_as (g.D.Disk.size disk) (g.D.Disk.stands disk) (g.D.Disk.faults disk) in
-    always_ok c.step-in-Deliver.result (cached_as g.D.Disk.tells c.args.self.now.cache c.step-in-Deliver.new.self.cache c.args.self.now.logs c.step-in-Deliver.new.self.logs (map f c.args.disks.now) c.requires.cached c.step-in-Deliver.ensures.cache c.step-in-Deliver.ensures.logs)
+    always_ok c.step-in-Deliver.result (cached_as g.D.Disk.tells c.args.cache.now c.args.self.now.logs c.step-in-Deliver.new.self.logs (map f c.args.disks.now) c.requires.cached c.step-in-Deliver.ensures.logs)
 
 pub returns-in-Lose-clause-cached : goal.returns-in-Lose-clause-cached
 returns-in-Lose-clause-cached g c =
     let f : g.row.D.Denot → DiskSeen = λ disk. seen_as (g.D.Disk.size disk) (g.D.Disk.stands disk) (g.D.Disk.faults disk) in
-    always_ok c.step-in-Lose.result (cached_as g.D.Disk.tells c.args.self.now.cache c.step-in-Lose.new.self.cache c.args.self.now.logs c.step-in-Lose.new.self.logs (map f c.args.disks.now) c.requires.cached c.step-in-Lose.ensures.cache c.step-in-Lose.ensures.logs)
+    always_ok c.step-in-Lose.result (cached_as g.D.Disk.tells c.args.cache.now c.args.self.now.logs c.step-in-Lose.new.self.logs (map f c.args.disks.now) c.requires.cached c.step-in-Lose.ensures.logs)
 
 pub returns-in-Repeat-clause-cached : goal.returns-in-Repeat-clause-cached
 returns-in-Repeat-clause-cached g c =
     let f : g.row.D.Denot → DiskSeen = λ disk. seen_as (g.D.Disk.size disk) (g.D.Disk.stands disk) (g.D.Disk.faults disk) in
-    always_ok c.step-in-Repeat.result (cached_as g.D.Disk.tells c.args.self.now.cache c.step-in-Repeat.new.self.cache c.args.self.now.logs c.step-in-Repeat.new.self.logs (map f c.args.disks.now) c.requires.cached c.step-in-Repeat.ensures.cache c.step-in-Repeat.ensures.logs)
+    always_ok c.step-in-Repeat.result (cached_as g.D.Disk.tells c.args.cache.now c.args.self.now.logs c.step-in-Repeat.new.self.logs (map f c.args.disks.now) c.requires.cached c.step-in-Repeat.ensures.logs)
 
 pub returns-in-Start-clause-cached : goal.returns-in-Start-clause-cached
 returns-in-Start-clause-cached g c =
     let f : g.row.D.Denot → DiskSeen = λ disk. seen_as (g.D.Disk.size disk) (g.D.Disk.stands disk) (g.D.Disk.faults disk) in
-    always_ok c.step-in-Start.result (cached_as g.D.Disk.tells c.args.self.now.cache c.step-in-Start.new.self.cache c.args.self.now.logs c.step-in-Start.new.self.logs (map f c.args.disks.now) c.requires.cached c.step-in-Start.ensures.cache c.step-in-Start.ensures.logs)
+    always_ok c.step-in-Start.result (cached_as g.D.Disk.tells c.args.cache.now c.args.self.now.logs c.step-in-Start.new.self.logs (map f c.args.disks.now) c.requires.cached c.step-in-Start.ensures.logs)
 
 pub returns-in-Fail-clause-cached : goal.returns-in-Fail-clause-cached
 returns-in-Fail-clause-cached g c =
     let f : g.row.D.Denot → DiskSeen = λ disk. seen_as (g.D.Disk.size disk) (g.D.Disk.stands disk) (g.D.Disk.faults disk) in
-    always_ok c.fail.result (cached_fewer g.D.Disk.tells c.fail.new.self.cache c.args.self.now.logs c.fail.new.self.logs (map f c.args.disks.now)
-    (cached_as g.D.Disk.tells c.args.self.now.cache c.fail.new.self.cache c.args.self.now.logs c.args.self.now.logs (map f c.args.disks.now) c.requires.cached c.fail.ensures.cache refl) c.fail.ensures.logs)
+    always_ok c.fail.result (cached_fewer g.D.Disk.tells c.args.cache.now c.args.self.now.logs c.fail.new.self.logs (map f c.args.disks.now) c.requires.cached c.fail.ensures.logs)
