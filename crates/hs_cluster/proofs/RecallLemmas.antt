@@ -148,10 +148,14 @@ read_first core peer number bytes answer = go (first_job peer core) refl answer
     go None is h = absurd (false_is_not h)
     go (Some j) is h = is ∙ ap (λ x. Some x) (of_job j h)
 
+-- a number is that of a block, in the list that the log of a peer reads as
+abbrev IsBlockOf : List (Option Keeping) → List DiskSeen → ℕ → ℕ → List ℕ → Type 0
+IsBlockOf logs disks peer number bytes = (keeping : Keeping) → log_at logs peer ≡ Some keeping
+    → (list : Numbered) (waiting : Option Entry) → IsKept keeping ((disk_at (stands_of disks) peer).seen keeping.log.side) list waiting → HasBlock number bytes (Some list)
+
 -- what it told is so of the list behind it
 abbrev HasTold : List (Option Keeping) → List DiskSeen → ℕ → Done → Type 0
-HasTold logs disks peer told = (number : ℕ) (bytes : List ℕ) → told ≡ done.Bytes number bytes → (keeping : Keeping) → log_at logs peer ≡ Some keeping
-    → (list : Numbered) (waiting : Option Entry) → IsKept keeping ((disk_at (stands_of disks) peer).seen keeping.log.side) list waiting → HasBlock number bytes (Some list)
+HasTold logs disks peer told = (number : ℕ) (bytes : List ℕ) → told ≡ done.Bytes number bytes → IsBlockOf logs disks peer number bytes
 
 pub told_there : (tells : Type 0) (core : Core) (peer : ℕ) (told : Done) (logs after : List (Option Keeping)) (disks left : List DiskSeen) → AreReady tells logs disks → tells → is_answer core peer told ≡ true
     → (is_own (first_job peer core) ≡ true → IsSome (log_at logs peer))
@@ -188,16 +192,13 @@ module _ (tells : Type 0) (logs after : List (Option Keeping)) (disks left : Lis
       → AreCached tells (Some (with_pair peer number bytes cache)) after left
   with_read cache number bytes has there = record { each = λ told p n bs at. by told p n bs (put_there cache peer number bytes ((p, n), bs) at) }
     where
-      abbrev Block : ℕ → ℕ → List ℕ → Type 0
-      Block p n bs = (keeping : Keeping) → log_at after p ≡ Some keeping → (list : Numbered) (waiting : Option Entry) → IsKept keeping ((disk_at (stands_of left) p).seen keeping.log.side) list waiting → HasBlock n bs (Some list)
-
-      here : tells → (p n : ℕ) (bs : List ℕ) → (p, n) ≡ (peer, number) → bs ≡ bytes → Block p n bs
+      here : tells → (p n : ℕ) (bs : List ℕ) → (p, n) ≡ (peer, number) → bs ≡ bytes → IsBlockOf after left p n bs
       here told p n bs key same =
-          subst (λ q. Block q n bs) (sym (ap (λ (k : Key). k.0) key))
-          (subst (λ m. Block peer m bs) (sym (ap (λ (k : Key). k.1) key))
-          (subst (λ b. Block peer number b) (sym same) (there told number bytes refl)))
+          subst (λ q. IsBlockOf after left q n bs) (sym (ap (λ (k : Key). k.0) key))
+          (subst (λ m. IsBlockOf after left peer m bs) (sym (ap (λ (k : Key). k.1) key))
+          (subst (λ b. IsBlockOf after left peer number b) (sym same) (there told number bytes refl)))
 
-      by : tells → (p n : ℕ) (bs : List ℕ) → Contains cache.entries ((p, n), bs) ⊎ (((p, n), bs) ≡ ((peer, number), bytes)) → Block p n bs
+      by : tells → (p n : ℕ) (bs : List ℕ) → Contains cache.entries ((p, n), bs) ⊎ (((p, n), bs) ≡ ((peer, number), bytes)) → IsBlockOf after left p n bs
       by told p n bs (inl was) = has.each told p n bs was
       by told p n bs (inr is) = here told p n bs (ap (λ (x : Key × List ℕ). x.0) is) (ap (λ (x : Key × List ℕ). x.1) is)
 
@@ -326,10 +327,10 @@ module _ (core : Core) (logs : List (Option Keeping)) (cache : Option Cached) (p
               | inl none ↦ no_job none
               | inr none ↦ no_log none
             ];
-            each = λ j keeping at there list waiting log. subst (λ k. Leaves_of k list waiting) (sym (read_is j at)) (record {
-              moments = stays_one (disk_at (stands_of disks) peer) now list list last since log.leaves;
-              log = subst (λ o. LeavesLog o trying (job.Read recalled.number) list waiting) (sym recalled_fine) (keeping, there, log);
-              told = recalled_tells list waiting keeping there log.kept;
+            each = λ j keeping at there list waiting has_log. subst (λ k. Leaves {E = E} trying k list waiting (Ok told)) (sym (read_is j at)) (record {
+              moments = stays_one (disk_at (stands_of disks) peer) now list list last since has_log.leaves;
+              log = subst (λ o. LeavesLog o trying (job.Read recalled.number) list waiting) (sym recalled_fine) (keeping, there, has_log);
+              told = recalled_tells list waiting keeping there has_log.kept;
             });
           };
           count = refl;
@@ -339,6 +340,3 @@ module _ (core : Core) (logs : List (Option Keeping)) (cache : Option Cached) (p
           where
             trying : Try
             trying = record { before = now; now = now; slot = log_at logs peer; kept = log_at logs peer; old = disk_at (stands_of disks) peer; new = disk_at (stands_of disks) peer }
-
-            abbrev Leaves_of : Job → Numbered → Option Entry → Type 0
-            Leaves_of k list waiting = Leaves {E = E} trying k list waiting (Ok told)

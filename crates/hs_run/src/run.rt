@@ -182,14 +182,7 @@ impl Run {
         ensures cause { SinkCause (K.faults sink.old) (K.faults sink.new) result }
     {
         self.line += 1;
-        let did = self.cluster.run_cached(
-            &mut self.cache,
-            naming,
-            disks,
-            watch,
-            self.line,
-            command,
-        );
+        let did = self.cluster.run_cached(&mut self.cache, naming, disks, watch, self.line, command);
         let put = print(
             &self.cluster,
             &mut self.printed,
