@@ -182,7 +182,8 @@ impl Run {
         ensures cause { SinkCause (K.faults sink.old) (K.faults sink.new) result }
     {
         self.line += 1;
-        let did = self.cluster.run_cached(&mut self.cache, naming, disks, watch, self.line, command);
+        let line = self.line;
+        let did = self.cluster.run_cached(&mut self.cache, naming, disks, watch, line, command);
         let put = print(
             &self.cluster,
             &mut self.printed,
