@@ -98,7 +98,6 @@ impl Cluster {
 
     /// The same, with blocks that were read lately: a Read of one of these is told without a call of the
     /// disk. None has no cache. What is handed over is what the last call left, or an empty cache.
-    #[tactic(auto)]
     pub fn run_cached<A: Addresser, D: Disk>(
         &mut self,
         cache: &mut Option<Cache>,

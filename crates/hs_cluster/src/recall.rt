@@ -31,7 +31,6 @@ use std::alloc::Global;
 /// Does the first job of a peer: what it came to. A Read of a block that is cached is told from
 /// there, without a call of its disk; one that took its bytes from the disk has them cached, in
 /// front, where there is memory.
-#[tactic(auto)]
 pub(crate) fn do_first<D: Disk>(
     alloc: Global,
     core: &Core,
@@ -130,7 +129,6 @@ pub(crate) fn do_first<D: Disk>(
 
 /// What is cached for the first job of a peer, which is a Read then. Its log is in use: without one
 /// no job is done. It takes no memory, and no call of a disk.
-#[tactic(auto)]
 fn cached_read(
     core: &Core,
     logs: &[Option<PeerLog>],
@@ -163,7 +161,6 @@ fn cached_read(
 }
 
 /// Caches what was read from the disk of a peer. Nothing stays cached where a disk was emptied.
-#[tactic(auto)]
 fn keep_told(cache: &mut Option<Cache>, peer: u8, told: &Done)
     ensures { Remembers peer told.now cache.old cache.new }
 {
