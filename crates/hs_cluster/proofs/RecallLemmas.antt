@@ -27,10 +27,10 @@ use Rattle.hs_events.specs.Asked.{failed_disk}
 use Rattle.hs_events.specs.Due.{is_answer}
 use Rattle.hs_events.specs.Reports.{HasBlock, TellsOf, costs}
 use Rattle.hs_fold.specs.Shards.Setting.{Numbered}
-use Rattle.hs_peerlog.proofs.ListLemmas.{has-list}
-use Rattle.hs_peerlog.specs.Lists.{HasLog, IsKept, Keeping}
+use Rattle.hs_peerlog.specs.Lists.{HasList, HasLog, IsKept, Keeping}
 use Rattle.hs_ports.specs.Moments.{disk_at}
 use Rattle.hs_side.specs.declared.header.Header.{Header}
+use Rattle.hs_side.specs.Reading.{list_of, listed}
 
 none_is_not : {A : Type 0} (x : A) → None ≡ Some x → ⊥
 none_is_not x e = cc e
@@ -61,9 +61,12 @@ stands_seen [] k = refl
 stands_seen (d ∷ disks) zero = refl
 stands_seen (d ∷ disks) (suc k) = stands_seen disks k
 
+has_list : (places seen : List ℕ) (entries : Numbered) → HasList places seen entries → list_of seen ≡ Some entries
+has_list places seen entries h = ap (λ r. listed r) h.read ∙ ap (λ es. Some es) h.listed
+
 -- it is one list
 one_list : (keeping : Keeping) (seen : List ℕ) (a b : Numbered) (x y : Option Entry) → IsKept keeping seen a x → IsKept keeping seen b y → a ≡ b
-one_list keeping seen a b x y one two = some_is a b (sym (has-list keeping.log.places seen a one.listed) ∙ has-list keeping.log.places seen b two.listed)
+one_list keeping seen a b x y one two = some_is a b (sym (has_list keeping.log.places seen a one.listed) ∙ has_list keeping.log.places seen b two.listed)
 
 -- where disks tell there is one
 record Reads (keeping : Keeping) (disks : List DiskSeen) (peer : ℕ) : Type 0 where
