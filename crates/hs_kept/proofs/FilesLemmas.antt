@@ -45,6 +45,7 @@ use Rattle.hs_tree.specs.Storing.{HasStored, our_session}
 use Rattle.hs_tree.specs.Trees.{IsStored}
 use Rattle.hs_tree.specs.declared.fault.TreeFault.{TreeFault}
 use Rattle.hs_tree.specs.declared.fault.TreeFault.TheVariants as fault
+use Rattle.hs_kept.proofs.KeyLemmas.{none_asked}
 use Rattle.hs_kept.proofs.LawLemmas.{Laws}
 use Rattle.hs_kept.proofs.StatusLemmas.{closed_tells_none, core_tells_none, cut_not, done_not, is_no_tree, is_read_fault, is_refused, is_too_long, never, never_done, never_written, told_by_status}
 use Rattle.hs_kept.proofs.RunLemmas.{AnswersFrom, answers_from, lists_of, told_run}
@@ -53,10 +54,6 @@ use Rattle.hs_kept.specs.Entry.{IsSoundEntry}
 use Rattle.hs_kept.specs.Kept.{AsksPlainly, FetchesPlainly, HasFile, HasNoFile, HasNothing, IsSoundStart, KeepsEachRoot, KeepsFile, StoresPlainly, disk_lists, set_of, store_before, store_behind}
 
 -- ---- what shards do by themselves leaves each root
-
-none_asked : (name : List ℕ → Address) (s : Store) (told : Reply) → line_event name s None told ≡ None
-none_asked name s (reply.Busy line) = refl
-none_asked name s other = refl
 
 module _ (commands : ℕ → Option Command) (nobody : (n : ℕ) → client_op (commands n) ≡ None) (name : List ℕ → Address) (limits : Limits) (key : List ℕ) where
   abbrev KeepsRoot : Store → Option Event → Type 0
@@ -93,10 +90,10 @@ lists_handed (disk ∷ disks) = λ i. list_in disk.stands.seen ∷ lists_handed 
 
 module _ (laws : Laws) (tells : Type 0) (name : List ℕ → Address) (shape : Shape) (r : Ran) (told : tells) (one : shape.copies ≡ 1) (names : GivesAddresses name) (sound : IsSoundStart name shape r) where
   module _ (e : AtEntry) (set : e.set ≡ set_of name shape) (handed : AreHanded r.old e.disks) where
-    lists_are : entry_lists e ≡ disk_lists r
+    pub lists_are : entry_lists e ≡ disk_lists r
     lists_are = lists_handed e.disks ∙ ap (λ (ds : List Standing). map (λ disk. list_in disk.seen) ds) handed.stands
 
-    began_is : began_by e ≡ record { name = name; limits = greatest_limits; store = store_before name shape r }
+    pub began_is : began_by e ≡ record { name = name; limits = greatest_limits; store = store_before name shape r }
     began_is =
         ap (λ (s : Setting). record { name = s.name; limits = s.limits; store = opened s (or_blank (entry_lists e)) }) set
         ∙ ap (λ (logs : List (Option Numbered)). record { name = name; limits = greatest_limits; store = opened (set_of name shape) (or_blank logs) }) lists_are
@@ -118,14 +115,15 @@ module _ (laws : Laws) (tells : Type 0) (name : List ℕ → Address) (shape : S
     pub here : IsTold tells e
     here = told_here e asks.set asks.disks
 
-    pub asks_plainly : AsksPlainly tells name shape r now.commands
-    asks_plainly =
+    answers_here : AnswersFrom (client_script name shape now.commands) (store_before name shape r) r.journal
+    answers_here =
         let answers : AnswersFrom (client_script name shape now.commands) (opened (set_of name shape) (or_blank (lists_of e.disks))) r.journal =
         answers_from laws (client_script name shape now.commands) (beneath r asks.until (status_by now.ended)) (told_run tells (client_script name shape now.commands) (beneath r asks.until (status_by now.ended)) told one names asks.machine)
         e.disks asks.disks.stands (subst (λ (logs : List (Option Numbered)). AreSoundAlong (set_of name shape) (taken_lists shape logs)) (sym (lists_are e asks.set asks.disks)) sound.sound) in
-        let from : AnswersFrom (client_script name shape now.commands) (store_before name shape r) r.journal =
-        subst (λ (logs : List (Option Numbered)). AnswersFrom (client_script name shape now.commands) (opened (set_of name shape) (or_blank logs)) r.journal) (lists_are e asks.set asks.disks) answers in
-        record { ended = now.ended; until = asks.until; machine = asks.machine; legal = from.legal; replied = from.replied }
+        subst (λ (logs : List (Option Numbered)). AnswersFrom (client_script name shape now.commands) (opened (set_of name shape) (or_blank logs)) r.journal) (lists_are e asks.set asks.disks) answers
+
+    abbrev pub asks_plainly : AsksPlainly tells name shape r now.commands
+    asks_plainly = record { ended = now.ended; until = asks.until; machine = asks.machine; legal = answers_here.legal; replied = answers_here.replied }
 
     -- the store that is told is the one behind what was answered
     pub behind_is : now.began ≡ start.began → store_now now.began now ≡ store_behind name shape now.commands r

@@ -45,7 +45,7 @@ told_alone : (journal refused entries : List JournalEntry) → refused ≡ [] �
 told_alone journal refused entries none between = (λ i. (journal ++ none i) ++ between i) ∙ append-nil (journal ++ []) ∙ append-nil journal
 
 -- where a core stands that goes on, the store behind its journal has the sessions that it has
-standing_sessions : (start : Start) (c : Whole) → WholeStands start c → (run start.set.limits start.entry (events_in (judging_of start) start.entry c.core.journal)).sessions ≡ as_sessions c.core.sessions
+pub standing_sessions : (start : Start) (c : Whole) → WholeStands start c → (run start.set.limits start.entry (events_in (judging_of start) start.entry c.core.journal)).sessions ≡ as_sessions c.core.sessions
 standing_sessions start c w =
     let same : (c.core.journal ++ c.core.refused) ++ c.core.entries ≡ c.core.journal = told_alone c.core.journal c.core.refused c.core.entries (w.turn.going w.sane.going) w.turn.told in
     ap (λ (told : List JournalEntry). (run start.set.limits start.entry (events_in (judging_of start) start.entry told)).sessions) (sym same)

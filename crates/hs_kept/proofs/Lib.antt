@@ -1,7 +1,17 @@
+pub mod AskedLemmas
+pub mod AwaitLemmas
 pub mod CopiedLemmas
 pub mod FilesLemmas
 pub mod HeldLemmas
+pub mod KeyLemmas
 pub mod LawLemmas
+pub mod LineLemmas
+pub mod MomentLemmas
+pub mod PendingLemmas
+pub mod QuietLemmas
 pub mod RunLemmas
+pub mod RunningLemmas
 pub mod StatusLemmas
+pub mod StoppedLemmas
 pub mod ToldLemmas
+pub mod WholeKeyLemmas

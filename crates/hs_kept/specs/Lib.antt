@@ -1,3 +1,5 @@
 pub mod Entry
 pub mod Kept
 pub mod Copied
+pub mod Pending
+pub mod Stopped
