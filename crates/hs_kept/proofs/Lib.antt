@@ -13,5 +13,6 @@ pub mod RunLemmas
 pub mod RunningLemmas
 pub mod StatusLemmas
 pub mod StoppedLemmas
+pub mod SurvivesLemmas
 pub mod ToldLemmas
 pub mod WholeKeyLemmas

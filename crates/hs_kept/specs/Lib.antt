@@ -3,3 +3,4 @@ pub mod Kept
 pub mod Copied
 pub mod Pending
 pub mod Stopped
+pub mod Survives
