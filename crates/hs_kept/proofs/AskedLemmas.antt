@@ -109,7 +109,7 @@ quiet_ops session (o ∷ ops) w = (subst (λ (x : Op). IsQuiet x) (sym w.0) tt, 
 -- what is so of all operations of some lines is so of that of each
 pub each_line : (P : Op → Type 0) (said : List Command) → AllByRecursion P (ops_of said) → (n : ℕ) (o : Op) → client_op (command_at said n) ≡ Some o → P o
 each_line P [] all n o asks = absurd (cc asks)
-each_line P (c ∷ cs) all n o asks = go (client_op (Some c)) refl (n == 1) asks
+each_line P (c ∷ cs) all n o asks = go (λ h k. each_line P cs h (n - 1) o k) (client_op (Some c)) refl (n == 1) asks
   where
     rest : (x : Option Op) → client_op (Some c) ≡ x → AllByRecursion P (ops_of cs)
     rest None e = rw e at all
@@ -119,9 +119,9 @@ each_line P (c ∷ cs) all n o asks = go (client_op (Some c)) refl (n == 1) asks
     here None e is = absurd (cc is)
     here (Some p) e is = let k = rw e at all in let same : p ≡ o = cc is in subst P same k.0
 
-    go : (x : Option Op) → client_op (Some c) ≡ x → (b : Bool) → client_op (if b then Some c else command_at cs (n - 1)) ≡ Some o → P o
-    go x e true is = here x e (sym e ∙ is)
-    go x e false is = each_line P cs (rest x e) (n - 1) o is
+    go : (AllByRecursion P (ops_of cs) → client_op (command_at cs (n - 1)) ≡ Some o → P o) → (x : Option Op) → client_op (Some c) ≡ x → (b : Bool) → client_op (if b then Some c else command_at cs (n - 1)) ≡ Some o → P o
+    go later x e true is = here x e (sym e ∙ is)
+    go later x e false is = later (rest x e) is
 
 -- of lines that ask for nothing none is a client's
 pub no_lines : (n : ℕ) → client_op (command_at [] n) ≡ None

@@ -49,7 +49,7 @@ HasNoMore s t = (b : Address) (y : StoredBlock) → block_at t b ≡ Some y → 
 pub record Goes (key : List ℕ) (a : Address) (s t : Store) : Type 0 where
   pub distinct : HasDistinctAddresses t
   pub held : (session : List ℕ) (handle : ℕ) → held_at t session handle ≡ held_at s session handle
-  pub key : KeepsOr key a s t
+  pub kept : KeepsOr key a s t
   pub fewer : HasNoMore s t
 
 pub or_then : (a : Address) (x y z : Option Root) → IsSameOr a x y → IsSameOr a y z → IsSameOr a x z
@@ -61,7 +61,7 @@ pub goes_then : (key : List ℕ) (a : Address) (s t u : Store) → Goes key a s 
 goes_then key a s t u g h = record {
   distinct = h.distinct;
   held = λ session handle. h.held session handle ∙ g.held session handle;
-  key = or_then a (retained_at s key) (retained_at t key) (retained_at u key) g.key h.key;
+  kept = or_then a (retained_at s key) (retained_at t key) (retained_at u key) g.kept h.kept;
   fewer = λ b y is. g.fewer b y (h.fewer b y is);
 }
 
@@ -83,21 +83,21 @@ with_root_or key a None roots e = inr (record { key = key; address = a; dropped 
 
 module _ (key : List ℕ) (a : Address) where
   pub goes_same : (s : Store) → HasDistinctAddresses s → Goes key a s s
-  goes_same s d = record { distinct = d; held = λ session handle. refl; key = inl refl; fewer = λ b y is. is }
+  goes_same s d = record { distinct = d; held = λ session handle. refl; kept = inl refl; fewer = λ b y is. is }
 
   goes_rooted : (s : Store) → HasDistinctAddresses s → Goes key a s (with_roots s (roots_with (retained_at s key) s.roots (record { key = key; address = a; dropped = None })))
-  goes_rooted s d = record { distinct = d; held = λ session handle. refl; key = with_root_or key a (retained_at s key) s.roots refl; fewer = λ b y is. is }
+  goes_rooted s d = record { distinct = d; held = λ session handle. refl; kept = with_root_or key a (retained_at s key) s.roots refl; fewer = λ b y is. is }
 
   -- ---- what shards do
 
   goes_enter : (s : Store) (shard : ℕ) → HasDistinctAddresses s → Goes key a s (enter s shard)
-  goes_enter s shard d = record { distinct = d; held = λ session handle. refl; key = inl (enter_retained s shard key); fewer = λ b y is. is }
+  goes_enter s shard d = record { distinct = d; held = λ session handle. refl; kept = inl (enter_retained s shard key); fewer = λ b y is. is }
 
   goes_sweep : (limits : Limits) (s : Store) (shard : ℕ) → HasDistinctAddresses s → Goes key a s (sweep s shard)
   goes_sweep limits s shard d = record {
     distinct = step-distinct limits s (sweeps shard) d;
     held = λ session handle. refl;
-    key = inl refl;
+    kept = inl refl;
     fewer = λ b y is. (stays_spared s (slice_index s.epochs shard) shard b y d is).0;
   }
 
@@ -136,8 +136,8 @@ module _ (key : List ℕ) (a : Address) where
   pub goes_happenings : (limits : Limits) (s : Store) (ones : List Happening) → HasDistinctAddresses s → AllByRecursion IsOfKey ones → Goes key a s (happen_all s ones)
   goes_happenings limits s [] d all = goes_same s d
   goes_happenings limits s (one ∷ ones) d all =
-      let first = goes_happen limits s one d all.0 in
-      goes_then key a s (happen s one) (happen_all (happen s one) ones) first (goes_happenings limits (happen s one) ones first.distinct all.1)
+      let here = goes_happen limits s one d all.0 in
+      goes_then key a s (happen s one) (happen_all (happen s one) ones) here (goes_happenings limits (happen s one) ones here.distinct all.1)
 
 -- ---- entries of a journal
 
@@ -168,13 +168,10 @@ module _ (commands : ℕ → Option Command) (name : List ℕ → Address) (limi
     goes_entry : (s : Store) → HasDistinctAddresses s → a ≡ address_of s session handle → (x : JournalEntry) → IsRest line x → Goes key a s (store_by limits s (event_at commands name s x))
     goes_entry s d is x rest = go x.who refl
       where
-        abbrev GoesBy : Option Event → Type 0
-        GoesBy event = Goes key a s (store_by limits s event)
+        named : (w : Who) → x.who ≡ w → (event : Option Event) → event_at commands name s (record x { who = w }) ≡ event → Goes key a s (store_by limits s event) → Goes key a s (store_by limits s (event_at commands name s x))
+        named w at event e h = subst (λ (y : Option Event). Goes key a s (store_by limits s y)) (sym (ap (λ (v : Who). event_at commands name s (record x { who = v })) at ∙ e)) h
 
-        named : (w : Who) → x.who ≡ w → (event : Option Event) → event_at commands name s (record x { who = w }) ≡ event → GoesBy event → GoesBy (event_at commands name s x)
-        named w at event e h = subst (λ (y : Option Event). GoesBy y) (sym (ap (λ (v : Who). event_at commands name s (record x { who = v })) at ∙ e)) h
-
-        go : (w : Who) → x.who ≡ w → GoesBy (event_at commands name s x)
+        go : (w : Who) → x.who ≡ w → Goes key a s (store_by limits s (event_at commands name s x))
         go (who.Line n) at = elim (rest n at) [
           | inl same ↦ named (who.Line n) at (line_event name s (Some (op.Root session key handle)) x.reply)
               (ap (λ (o : Option Op). line_event name s o x.reply) (ap (λ (k : ℕ). client_op (commands k)) same ∙ asks_it)) (by_line s d is x.reply)
@@ -187,7 +184,7 @@ module _ (commands : ℕ → Option Command) (name : List ℕ → Address) (limi
     goes_entries s d is [] rest = goes_same key a s d
     goes_entries s d is (x ∷ xs) rest =
         let t : Store = store_by limits s (event_at commands name s x) in
-        let first : Goes key a s (store_by limits s (event_at commands name s x)) = goes_entry s d is x rest.0 in
-        let there : a ≡ address_of t session handle = is ∙ ap (λ (h : Option Held). (unwrap_or h nothing).address) (sym (first.held session handle)) in
+        let here : Goes key a s (store_by limits s (event_at commands name s x)) = goes_entry s d is x rest.0 in
+        let there : a ≡ address_of t session handle = is ∙ ap (λ (h : Option Held). (unwrap_or h nothing).address) (sym (here.held session handle)) in
         subst (λ (u : Store). Goes key a s u) (sym (behind_event s (event_at commands name s x) (λ u. events_of commands name limits u xs)))
-        (goes_then key a s t (run limits t (events_of commands name limits t xs)) first (goes_entries t first.distinct there xs rest.1))
+        (goes_then key a s t (run limits t (events_of commands name limits t xs)) here (goes_entries t here.distinct there xs rest.1))

@@ -1,6 +1,6 @@
 -- Of which lines a journal tells, and what it told by a moment.
 use Rattle.std.proofs.Common.{◌≡◌, ◌∙◌, ◌⊎◌, inl, inr, ap, sym, subst, refl, ℕ, zero, suc, ◌+◌, ◌<◌, ◌≤◌, Bool, true, false, cond, List, [], ◌∷◌, ◌++◌, Some, arith, append-nil, length, nat_lt}
-use Rattle.std.proofs.lemmas.Bool.{cases_eq, cases_lt}
+use Rattle.std.proofs.lemmas.Bool.{cases_eq, cases_lt, lt-ltb}
 use Rattle.std.proofs.lemmas.List.Elements.{filter-append}
 use Rattle.std.specs.List.{AllByRecursion}
 use Rattle.std.specs.Prelude.{Option, slice_get}
@@ -122,12 +122,12 @@ later m k (x ∷ xs) le h = ((let up = h.0 in omega (arith, le, up)), later m k 
 
 pub has_below : (n m : ℕ) (xs : List JournalEntry) → HasLine n (below m xs) → HasLine n xs
 has_below n m [] h = h
-has_below n m (x ∷ xs) h = go (nat_lt x.moment m) h
+has_below n m (x ∷ xs) h = go (λ k. has_below n m xs k) (nat_lt x.moment m) h
   where
-    go : (b : Bool) → HasLine n (cond b (x ∷ below m xs) (below m xs)) → HasLine n (x ∷ xs)
-    go true (inl is) = inl is
-    go true (inr h) = inr (has_below n m xs h)
-    go false h = inr (has_below n m xs h)
+    go : (HasLine n (below m xs) → HasLine n xs) → (b : Bool) → HasLine n (cond b (x ∷ below m xs) (below m xs)) → HasLine n (x ∷ xs)
+    go rest true (inl is) = inl is
+    go rest true (inr h) = inr (rest h)
+    go rest false h = inr (rest h)
 
 all_right : (P : JournalEntry → Type 0) (xs ys : List JournalEntry) → AllByRecursion P (xs ++ ys) → AllByRecursion P ys
 all_right P [] ys h = h
@@ -144,7 +144,7 @@ Parts m xs ys = (below m xs ≡ xs) ⊎ ((z : List JournalEntry) × (xs ≡ belo
 parts : (m : ℕ) (xs ys : List JournalEntry) → Rise (xs ++ ys) → Parts m xs ys
 parts m [] ys rises = inl refl
 parts m (x ∷ xs) ys rises = elim (cases_lt x.moment m) [
-  | inl early ↦ go_early (let lt : nat_lt x.moment m ≡ true = grind (arith, early) in lt) (parts m xs ys rises.1)
+  | inl early ↦ go_early (lt-ltb x.moment m early) (parts m xs ys rises.1)
   | inr late ↦ (
     let is : nat_lt x.moment m ≡ false = lt-false x.moment m late in
     let behind = later m x.moment (xs ++ ys) late rises.0 in

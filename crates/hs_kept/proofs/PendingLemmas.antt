@@ -1,5 +1,5 @@
 -- Of a core that stands, what waits in its lists is what its lines ask for.
-use Rattle.std.proofs.Common.{◌≡◌, ◌∙◌, ◌⊎◌, inl, inr, ap, sym, subst, refl, ℕ, ◌+◌, ◌<◌, ◌++◌, Bool, true, false, List, [], ◌∷◌, Option, Some, None, is_some, arith, append-nil, if◌then◌else◌}
+use Rattle.std.proofs.Common.{◌≡◌, ◌∙◌, ◌⊎◌, inl, inr, ap, sym, subst, refl, ℕ, ◌+◌, ◌<◌, ◌++◌, Bool, true, false, List, [], ◌∷◌, Option, Some, None, is_none, is_some, arith, append-nil, if◌then◌else◌}
 use Rattle.std.proofs.lemmas.Bool.{and_parts, cases_eq, ne_eqb}
 use Rattle.std.specs.Option.{option_map}
 use Rattle.std.specs.Prelude.{slice_get, unwrap_or}
@@ -20,10 +20,12 @@ use Rattle.hs_journal.specs.Order.{IsOfLine, session_of}
 use Rattle.hs_journal.specs.declared.entry.JournalEntry.{JournalEntry}
 use Rattle.hs_limits.specs.declared.address.Held.{Held}
 use Rattle.hs_limits.specs.declared.limits.Limits.{Limits}
-use Rattle.hs_model.specs.Refusals.{no_handle_in}
+use Rattle.hs_model.specs.Refusals.{no_handle_in, refused_when}
 use Rattle.hs_model.specs.Store.{Store}
 use Rattle.hs_model.specs.declared.op.Op.{Op}
 use Rattle.hs_model.specs.declared.op.Op.TheVariants as op
+use Rattle.hs_model.specs.declared.reply.Reply.TheVariants as reply
+use Rattle.hs_ops.specs.Views.{as_session}
 use Rattle.hs_shown.specs.Showing.{as_sessions}
 use Rattle.hs_standing.proofs.WaitLemmas.{same_asked}
 use Rattle.hs_standing.specs.Commands.{IsCommanded}
@@ -48,7 +50,9 @@ unfolding no_handle_in
 own_held limits seats session key handle own =
     some_is (held_at (seat_of session seats) handle)
     (and_parts (is_some (held_at (seat_of session seats) handle)) true
-    (all_held (seat_of session seats) (handle ∷ []) (head_none _ _ (rest_none _ _ own)))).0
+    (all_held (seat_of session seats) (handle ∷ [])
+    (head_none (no_handle_in (option_map as_session (seat_of session seats)) (handle ∷ [])) []
+    (rest_none (refused_when (is_none (option_map as_session (seat_of session seats))) (reply.NoSession session)) (no_handle_in (option_map as_session (seat_of session seats)) (handle ∷ []) ∷ []) own)))).0
 
 -- ---- one entry of an operation
 

@@ -1,5 +1,6 @@
 -- Operations that open, write and forget leave each root, and so do blocks, enters and sweeps that happen.
 use Rattle.std.proofs.Common.{◌≡◌, ◌∙◌, inl, inr, ap, sym, subst, refl, ℕ, Bool, true, false, List, [], ◌∷◌, Option, Some, None, if◌then◌else◌}
+use Rattle.std.specs.BTreeMap.{insert_entry}
 use Rattle.std.specs.List.{AllByRecursion}
 use Rattle.std.specs.Prelude.{Result, Ok, Err, find}
 use Rattle.hs_asking.proofs.RootLemmas.{enter_retained}
@@ -25,7 +26,7 @@ use Rattle.hs_model.proofs.JudgeLemmas.{judge_granted, judge_refused}
 use Rattle.hs_model.specs.Judge.{Judged, given_address, granted, judge, refusals, written}
 use Rattle.hs_model.specs.Refusals.{first}
 use Rattle.hs_model.specs.Run.{Event, run}
-use Rattle.hs_model.specs.Store.{Root, Store, is_retained, retained_at, with_block}
+use Rattle.hs_model.specs.Store.{Root, Store, address_cmp, epoch_at, is_retained, retained_at, with_block}
 use Rattle.hs_model.specs.declared.command.Command.{Command}
 use Rattle.hs_model.specs.declared.deed.Deed.{Deed}
 use Rattle.hs_model.specs.declared.deed.Deed.TheVariants as deed
@@ -181,7 +182,7 @@ module _ (key : List ℕ) where
       go : (b : Bool) → retained_at (if b then with_block s a block else s) key ≡ retained_at s key
       go true = refl
       go false = refl
-  happens_still s (changes (gives least a)) q = go (is_usable s least a) _
+  happens_still s (changes (gives least a)) q = go (is_usable s least a) (insert_entry address_cmp s.given a (epoch_at s a))
     where
       go : (b : Bool) (given : List (Address × ℕ)) → retained_at (if b then record s { given = given } else s) key ≡ retained_at s key
       go true given = refl

@@ -35,22 +35,25 @@ module _ (start : Start) (on : RunsOn start) (moment : ℕ) where
       let bad : Some f ≡ None = sym ended ∙ goes in
       cc bad
 
+  -- what is so behind some events, as long as all are good
+  abbrev StillRuns : Whole → List (Event × ℕ) → Type 0
+  StillRuns c behind = AllGood start (runs whole_machine c behind) → IsRunning start (runs whole_machine c behind)
+
+  module _ (c : Whole) (e : Event × ℕ) (es : Events) (running : IsRunning start c) (may : AllMayKeep start (MayRun start) c.core (e ∷ es))
+      (rest : IsRunning start (step_whole e.0 e.1 c) → StillRuns (step_whole e.0 e.1 c) (until moment (happened (step e.0 e.1 c.core) es))) where
+    by_end : is_refused (step e.0 e.1 c.core).ended ≡ false → (o : Option CoreFault) → (step e.0 e.1 c.core).ended ≡ o → StillRuns c (e ∷ until moment (happened (step e.0 e.1 c.core) es))
+    by_end told None going all = rest (on c (e ∷ []) running (may.0, tt) going) all
+    by_end told (Some f) ended all = absurd (never_lost c e.0 e.1 (until moment (happened (step e.0 e.1 c.core) es)) f running told ended all)
+
+    by_moment : is_refused (step e.0 e.1 c.core).ended ≡ false → (b : Bool) → nat_lt e.1 moment ≡ b → StillRuns c (cond b (e ∷ until moment (happened (step e.0 e.1 c.core) es)) [])
+    by_moment told true is all = by_end told (step e.0 e.1 c.core).ended refl all
+    by_moment told false is all = running
+
+    by_refusal : (b : Bool) → is_refused (step e.0 e.1 c.core).ended ≡ b → StillRuns c (until moment (cond b [] (e ∷ happened (step e.0 e.1 c.core) es)))
+    by_refusal true told all = running
+    by_refusal false told all = by_moment told (nat_lt e.1 moment) refl all
+
   pub running_then : (c : Whole) (es : Events) → IsRunning start c → AllMayKeep start (MayRun start) c.core es → AllGood start (state_at whole_machine c (happened c.core es) moment) → IsRunning start (state_at whole_machine c (happened c.core es) moment)
   running_then c [] running may good = running
-  running_then c (e ∷ es) running may good = by_refusal (is_refused (step e.0 e.1 c.core).ended) refl good
-    where
-      -- what is so of the events behind this one
-      abbrev Later : List (Event × ℕ) → Type 0
-      Later behind = AllGood start (runs whole_machine c behind) → IsRunning start (runs whole_machine c behind)
-
-      by_end : is_refused (step e.0 e.1 c.core).ended ≡ false → (o : Option CoreFault) → (step e.0 e.1 c.core).ended ≡ o → Later (e ∷ until moment (happened (step e.0 e.1 c.core) es))
-      by_end told None going = λ all. running_then (step_whole e.0 e.1 c) es (on c (e ∷ []) running (may.0, tt) going) may.1 all
-      by_end told (Some f) ended = λ all. absurd (never_lost c e.0 e.1 (until moment (happened (step e.0 e.1 c.core) es)) f running told ended all)
-
-      by_moment : is_refused (step e.0 e.1 c.core).ended ≡ false → (b : Bool) → nat_lt e.1 moment ≡ b → Later (cond b (e ∷ until moment (happened (step e.0 e.1 c.core) es)) [])
-      by_moment told true is = by_end told (step e.0 e.1 c.core).ended refl
-      by_moment told false is = λ all. running
-
-      by_refusal : (b : Bool) → is_refused (step e.0 e.1 c.core).ended ≡ b → Later (until moment (cond b [] (e ∷ happened (step e.0 e.1 c.core) es)))
-      by_refusal true told = λ all. running
-      by_refusal false told = by_moment told (nat_lt e.1 moment) refl
+  running_then c (e ∷ es) running may good =
+      by_refusal c e es running may (λ next all. running_then (step_whole e.0 e.1 c) es next may.1 all) (is_refused (step e.0 e.1 c.core).ended) refl good

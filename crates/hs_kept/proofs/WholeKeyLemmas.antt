@@ -188,7 +188,7 @@ module _ (name : List ℕ → Address) (limits : Limits) (commands : ℕ → Opt
     pub whole_after : IsValid (after (told ++ more)) → IsKeptWhole (after (told ++ more))
     whole_after valid =
         let goes = goes_on more rest_more in
-        finish (after (told ++ more)) valid (from_first (after (told ++ more)) goes.key) (alike_fewer (after told) (after (told ++ more)) goes.fewer)
+        finish (after (told ++ more)) valid (from_first (after (told ++ more)) goes.kept) (alike_fewer (after told) (after (told ++ more)) goes.fewer)
 
     -- ---- at a moment
 
@@ -274,7 +274,7 @@ module _ (name : List ℕ → Address) (limits : Limits) (commands : ℕ → Opt
       finish_behind : IsValid (reborn u) → Goes key top_address (after told) s → Goes key top_address s u → IsKeptWhole (reborn u)
       finish_behind valid one other =
           let goes = goes_then key top_address (after told) s u one other in
-          finish (reborn u) valid (from_first (reborn u) goes.key) (alike_fewer (after told) (reborn u) goes.fewer)
+          finish (reborn u) valid (from_first (reborn u) goes.kept) (alike_fewer (after told) (reborn u) goes.fewer)
 
       where_answered : IsValid (reborn u) → HasLine line then → IsKeptWhole (reborn u)
       where_answered valid has = elim (parts_at commands m told more ordered) [
@@ -332,7 +332,7 @@ module _ (name : List ℕ → Address) (limits : Limits) (commands : ℕ → Opt
           finish_z : IsValid (reborn u) → IsKeptWhole (reborn u)
           finish_z valid =
               let goes = goes_pending answered_next (λ held address taken puts n. root_puts top_address holds_z refl held address taken puts) distinct_then in
-              finish (reborn u) valid (or_then top_address (retained_at first key) (retained_at s key) (retained_at u key) (inl quiet_then) goes.key)
+              finish (reborn u) valid (or_then top_address (retained_at first key) (retained_at s key) (retained_at u key) (inl quiet_then) goes.kept)
               (alike_both s (after told) (reborn u) goes_z.fewer goes.fewer)
 
         where_waiting : IsValid (reborn u) → IsKeptWhole (reborn u)

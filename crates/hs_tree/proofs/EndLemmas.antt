@@ -194,15 +194,16 @@ module _ {tells : Type 0} (name : List ℕ → Address) (key : List ℕ) (start 
       which told refusal (unrooted (inl e) goes) = (subst (λ z. IsStoreRefusal key z) (sym e) refl, goes.roots)
       which told refusal (unrooted (inr e) goes) = (subst (λ z. IsStoreRefusal key z) (sym e) tt, goes.roots)
 
+  -- a root was asked for last, or none was
+  abbrev RootOf : Option (List ℕ) → Shown tells → List Op → Type 0
+  RootOf left' now ops = ((session : List ℕ) × IsOpenAndWork session ops) ⊎ ((taken : List ℕ) × AsksRoot name taken start now file × IsEnded left' × (length file ≤ 67108864))
+
   -- the whole tree is written before it is asked for
   pub root_unfinished : (left left' : Option (List ℕ)) (f : TreeFault) → length file ≤ 67108864 → before file left' ≡ left → IsEnded left' → CallFails old new (op.Root our_session key n.handle) f → IsUnfinished name start new left left'
   unfolding tree_of
   root_unfinished left left' f fits stream ended c = go f c
     where
-      abbrev RootOf : Shown tells → List Op → Type 0
-      RootOf now ops = ((session : List ℕ) × IsOpenAndWork session ops) ⊎ ((taken : List ℕ) × AsksRoot name taken start now file × IsEnded left' × (length file ≤ 67108864))
-
-      with_ops : (now : Shown tells) (ops : List Op) → now.asked ≡ start.asked ++ ops → writes_in ops ≡ writes_in h.worked.ops → RootOf now ops → IsUnfinished name start now left left'
+      with_ops : (now : Shown tells) (ops : List Op) → now.asked ≡ start.asked ++ ops → writes_in ops ≡ writes_in h.worked.ops → RootOf left' now ops → IsUnfinished name start now left left'
       with_ops now ops asked same root = record {
         file = file;
         stream = stream;
