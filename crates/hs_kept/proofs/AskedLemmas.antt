@@ -12,6 +12,7 @@ use Rattle.hs_journal.specs.Order.{session_of}
 use Rattle.hs_journal.specs.declared.entry.JournalEntry.{JournalEntry}
 use Rattle.hs_journal.specs.declared.entry.Who.TheVariants as who
 use Rattle.hs_model.specs.declared.command.Command.{Command}
+use Rattle.hs_model.specs.declared.command.Command.TheVariants as command
 use Rattle.hs_model.specs.declared.op.Op.{Op}
 use Rattle.hs_model.specs.declared.op.Op.TheVariants as op
 use Rattle.hs_model.specs.declared.reply.Reply.{Reply}
@@ -40,13 +41,13 @@ one_more P old new o told h p all n q asks = elim (cases_eq n h.line) [
 ]
 
 pub done_clients : {tells : Type 0} (P : Op → Type 0) (start now : Shown tells) (ops : List Op) → AllByRecursion P ops → AreDone start now ops → ClientsAre P start → ClientsAre P now
-done_clients P start now [] all done clients = subst (λ (s : Shown _). ClientsAre P s) (sym done) clients
+done_clients {tells} P start now [] all done clients = subst (λ (s : Shown tells). ClientsAre P s) (sym done) clients
 done_clients P start now (o ∷ ops) all done clients =
     done_clients P done.0 now ops all.1 done.4 (one_more P start done.0 o done.1 done.2.entry all.0 clients)
 
 -- the first of them is among what was answered
 grows : {tells : Type 0} (start now : Shown tells) (ops : List Op) (n : ℕ) → AreDone start now ops → HasLine n start.journal → HasLine n now.journal
-grows start now [] n done has = subst (λ (s : Shown _). HasLine n s.journal) (sym done) has
+grows {tells} start now [] n done has = subst (λ (s : Shown tells). HasLine n s.journal) (sym done) has
 grows start now (o ∷ ops) n done has =
     grows done.0 now ops n done.4 (subst (λ (journal : List JournalEntry). HasLine n journal) (sym done.2.entry.journal) (has_left n start.journal (done.2.entry.front ++ done.2.entry.entry ∷ done.2.entry.back) has))
 
@@ -106,23 +107,29 @@ quiet_ops session (o ∷ ops) w = (subst (λ (x : Op). IsQuiet x) (sym w.0) tt, 
 
 -- ---- lines and what they ask for
 
--- what is so of all operations of some lines is so of that of each
+none_some : (o : Op) → None ≡ Some o → ⊥
+none_some o e = cc e
+
+-- what is so of all operations of some lines is so of that of the first, and of those behind it
+one_line : (P : Op → Type 0) (c : Command) (cs : List Command) → AllByRecursion P (ops_of (c ∷ cs)) → ((p : Op) → client_op (Some c) ≡ Some p → P p) × AllByRecursion P (ops_of cs)
+one_line P (command.Client p) cs all = ((λ q is. let same : p ≡ q = cc is in subst P same all.0), all.1)
+one_line P command.Settle cs all = ((λ q is. absurd (none_some q is)), all)
+one_line P (command.Turn peer) cs all = ((λ q is. absurd (none_some q is)), all)
+one_line P (command.Nudge peer) cs all = ((λ q is. absurd (none_some q is)), all)
+one_line P (command.Deliver message) cs all = ((λ q is. absurd (none_some q is)), all)
+one_line P (command.Lose message) cs all = ((λ q is. absurd (none_some q is)), all)
+one_line P (command.Repeat message) cs all = ((λ q is. absurd (none_some q is)), all)
+one_line P (command.Fail peer) cs all = ((λ q is. absurd (none_some q is)), all)
+one_line P (command.Start peer) cs all = ((λ q is. absurd (none_some q is)), all)
+one_line P (command.Reclaim peer) cs all = ((λ q is. absurd (none_some q is)), all)
+
+-- and of that of each
 pub each_line : (P : Op → Type 0) (said : List Command) → AllByRecursion P (ops_of said) → (n : ℕ) (o : Op) → client_op (command_at said n) ≡ Some o → P o
-each_line P [] all n o asks = absurd (cc asks)
-each_line P (c ∷ cs) all n o asks = go (λ h k. each_line P cs h (n - 1) o k) (client_op (Some c)) refl (n == 1) asks
+each_line P [] all n o asks = absurd (none_some o asks)
+each_line P (c ∷ cs) all n o asks =
+    let h = one_line P c cs all in
+    go h.0 (λ k. each_line P cs h.1 (n - 1) o k) (n == 1) asks
   where
-    rest : (x : Option Op) → client_op (Some c) ≡ x → AllByRecursion P (ops_of cs)
-    rest None e = rw e at all
-    rest (Some p) e = let k = rw e at all in k.1
-
-    here : (x : Option Op) → client_op (Some c) ≡ x → x ≡ Some o → P o
-    here None e is = absurd (cc is)
-    here (Some p) e is = let k = rw e at all in let same : p ≡ o = cc is in subst P same k.0
-
-    go : (AllByRecursion P (ops_of cs) → client_op (command_at cs (n - 1)) ≡ Some o → P o) → (x : Option Op) → client_op (Some c) ≡ x → (b : Bool) → client_op (if b then Some c else command_at cs (n - 1)) ≡ Some o → P o
-    go later x e true is = here x e (sym e ∙ is)
-    go later x e false is = later (rest x e) is
-
--- of lines that ask for nothing none is a client's
-pub no_lines : (n : ℕ) → client_op (command_at [] n) ≡ None
-no_lines n = refl
+    go : ((p : Op) → client_op (Some c) ≡ Some p → P p) → (client_op (command_at cs (n - 1)) ≡ Some o → P o) → (b : Bool) → client_op (if b then Some c else command_at cs (n - 1)) ≡ Some o → P o
+    go here later true is = here o is
+    go here later false is = later is

@@ -75,7 +75,7 @@ module _ (tells : Type 0) (S : Script) (r : Ran) (told : tells) (one : S.set.sha
   shown_by (Some story) went read runs unopened =
       shown_of tells S r story on_disks runs.span told runs.before runs.now runs.old.stands runs.new.stands runs.shown went read.read
 
-  pub told_run : IsToldRun S r
+  abbrev pub told_run : IsToldRun S r
   told_run = record { on = on_disks; how = cluster.how; shown = shown_by cluster.how cluster.went (cluster.told told) cluster.runs (cluster.unopened one) }
 
 -- ---- a run whose core goes on behind its opening begins at the lists of its disks

@@ -118,7 +118,7 @@ module _ (laws : Laws) (moments : MomentLaws) (stops : StopsSo) (tells : Type 0)
     abbrev ran : Ran
     ran = beneath r asks.until (status_by now.ended)
 
-    told_ran : IsToldRun S ran
+    abbrev told_ran : IsToldRun S ran
     told_ran = told_run tells S ran told one names asks.machine
 
     valid_behind : IsValid (store_behind name shape now.commands r)
@@ -177,14 +177,14 @@ module _ (laws : Laws) (moments : MomentLaws) (stops : StopsSo) (tells : Type 0)
           ∙ quiet_stop name greatest_limits now.commands key file entry quiet (below m r.journal) (pending_at S ran m images) pends
           ∙ ap (λ (t : Store). retained_at t key) first_is
 
-      module _ (file : List ℕ) (before more : List JournalEntry) (line handle : ℕ) (poised : IsPoised name greatest_limits now.commands key file (store_before name shape r) before line handle) (journal_is : r.journal ≡ before ++ more) (ordered : IsOrdered now.commands (before ++ more)) where
-        opens_at : opened (set_of name shape) (or_blank (image_logs images)) ≡ reopened (before ++ more)
+      module _ (file : List ℕ) (early more : List JournalEntry) (line handle : ℕ) (poised : IsPoised name greatest_limits now.commands key file (store_before name shape r) early line handle) (journal_is : r.journal ≡ early ++ more) (ordered : IsOrdered now.commands (early ++ more)) where
+        opens_at : opened (set_of name shape) (or_blank (image_logs images)) ≡ reopened (early ++ more)
         opens_at = reopens.stands ∙ ap (λ (journal : List JournalEntry). reopened journal) journal_is
 
-        whole_there : IsKeptWhole name greatest_limits now.commands key file (entry_store S ran) (reopened (before ++ more))
+        whole_there : IsKeptWhole name greatest_limits now.commands key file (entry_store S ran) (reopened (early ++ more))
         whole_there =
-            whole_stop name greatest_limits now.commands key file (entry_store S ran) before more line handle
-            (subst (λ (s : Store). IsPoised name greatest_limits now.commands key file s before line handle) (sym first_is) poised) ordered m (pending_at S ran m images)
+            whole_stop name greatest_limits now.commands key file (entry_store S ran) early more line handle
+            (subst (λ (s : Store). IsPoised name greatest_limits now.commands key file s early line handle) (sym first_is) poised) ordered m (pending_at S ran m images)
             (subst (λ (journal : List JournalEntry). AllByRecursion (IsPendingAs now.commands (run greatest_limits entry (events_of now.commands name greatest_limits entry (below m journal))) (below m journal)) (pending_at S ran m images)) journal_is pends)
             (subst (λ (t : Store). IsValid t) opens_at reopens.sound.sound.valid)
 

@@ -52,9 +52,9 @@ alike_fewer s t fewer b x y here there = let was = fewer b y there in cc (here, 
 alike_both : (r s t : Store) → HasNoMore r s → HasNoMore r t → AreAlike s t
 alike_both r s t one other b x y here there = let p = one b x here in let q = other b y there in cc (p, q)
 
-some_op : (o : Option Op) (P : Op → Type 0) (X : Type 0) → ((said : Op) → o ≡ Some said → X) → (o ≡ None → X) → X
-some_op None P X some none = none refl
-some_op (Some said) P X some none = some said refl
+some_op : (o : Option Op) (X : Type 0) → ((said : Op) → o ≡ Some said → X) → (o ≡ None → X) → X
+some_op None X some none = none refl
+some_op (Some said) X some none = some said refl
 
 module _ (name : List ℕ → Address) (limits : Limits) (commands : ℕ → Option Command) (key file : List ℕ) (first : Store) where
   abbrev after : List JournalEntry → Store
@@ -152,7 +152,7 @@ module _ (name : List ℕ → Address) (limits : Limits) (commands : ℕ → Opt
     rest_all (x ∷ xs) h = (
       λ n is. elim (cases_eq n line) [
         | inl same ↦ inl same
-        | inr differs ↦ some_op (client_op (commands n)) (λ o. Unit {0}) ((n ≡ line) ⊎ (client_op (commands n) ≡ None)) (λ o asks. absurd (h n o (inl is) asks differs)) (λ none. inr none)
+        | inr differs ↦ some_op (client_op (commands n)) ((n ≡ line) ⊎ (client_op (commands n) ≡ None)) (λ o asks. absurd (h n o (inl is) asks differs)) (λ none. inr none)
       ],
       rest_all xs (λ n o has asks differs. h n o (inr has) asks differs),
     )
@@ -286,8 +286,8 @@ module _ (name : List ℕ → Address) (limits : Limits) (commands : ℕ → Opt
       -- ---- it waits then
 
       -- what its entry puts
-      root_puts : (a : Address) → (held_at s our_session handle ≡ Some poised.held) → a ≡ top_address → (held : ℕ) (address : Address) (taken : List ℕ) → PutsAs commands s (kind.Root line held address taken) → (address ≡ top_address) × (taken ≡ key)
-      root_puts a holds is held address taken puts = go puts.0 puts.1 (let both : Some (op.Root puts.0 taken puts.1) ≡ Some root = sym puts.2 ∙ poised.asks_it in both) puts.3
+      root_puts : held_at s our_session handle ≡ Some poised.held → (held : ℕ) (address : Address) (taken : List ℕ) → PutsAs commands s (kind.Root line held address taken) → (address ≡ top_address) × (taken ≡ key)
+      root_puts holds held address taken puts = go puts.0 puts.1 (let both : Some (op.Root puts.0 taken puts.1) ≡ Some root = sym puts.2 ∙ poised.asks_it in both) puts.3
         where
           go : (session : List ℕ) (number : ℕ) → Some (op.Root session taken number) ≡ Some root → held_at s session number ≡ Some (record { address = address; epoch = held }) → (address ≡ top_address) × (taken ≡ key)
           go session number same at =
@@ -315,7 +315,7 @@ module _ (name : List ℕ → Address) (limits : Limits) (commands : ℕ → Opt
 
           goes_z : Goes key (address_of s our_session handle) s (after told)
           goes_z =
-              subst (λ (t : Store). Goes key (address_of s our_session handle) s t) (sym (ap after is ∙ after_parts then z))
+              subst (λ (t : Store). Goes key (address_of s our_session handle) s t) (sym (ap (λ (journal : List JournalEntry). after journal) is ∙ after_parts then z))
               (goes_entries commands name limits line our_session key handle poised.asks_it (address_of s our_session handle) s distinct_then refl z rest_z)
 
           holds_z : held_at s our_session handle ≡ Some poised.held
@@ -331,7 +331,7 @@ module _ (name : List ℕ → Address) (limits : Limits) (commands : ℕ → Opt
 
           finish_z : IsValid (reborn u) → IsKeptWhole (reborn u)
           finish_z valid =
-              let goes = goes_pending answered_next (λ held address taken puts n. root_puts top_address holds_z refl held address taken puts) distinct_then in
+              let goes = goes_pending answered_next (λ held address taken puts n. root_puts holds_z held address taken puts) distinct_then in
               finish (reborn u) valid (or_then top_address (retained_at first key) (retained_at s key) (retained_at u key) (inl quiet_then) goes.kept)
               (alike_both s (after told) (reborn u) goes_z.fewer goes.fewer)
 
@@ -340,7 +340,7 @@ module _ (name : List ℕ → Address) (limits : Limits) (commands : ℕ → Opt
           | inl is ↦ (
             let one = goes_behind is in
             let holds : held_at s our_session handle ≡ Some poised.held = one.held our_session handle ∙ poised.holds in
-            finish_behind valid one (goes_pending (answered_behind is) (λ held address taken puts n. root_puts top_address holds refl held address taken puts) distinct_then)
+            finish_behind valid one (goes_pending (answered_behind is) (λ held address taken puts n. root_puts holds held address taken puts) distinct_then)
           )
           | inr z ↦ finish_z z.0 z.1 valid
         ]
@@ -353,11 +353,11 @@ module _ (name : List ℕ → Address) (limits : Limits) (commands : ℕ → Opt
       split_kind (kind.Mark n least block address) puts next = inr tt
       split_kind (kind.Root n held address taken) puts next = elim (cases_eq n line) [
         | inl same ↦ inl (subst (λ (k : ℕ). IsNextOf commands then k) same (next n refl))
-        | inr differs ↦ absurd (poised.clients n (op.Root puts.0 taken puts.1) puts.2 differs).quiet
+        | inr differs ↦ absurd ((poised.clients n (op.Root puts.0 taken puts.1) puts.2 differs).quiet)
       ]
       split_kind (kind.Drop n taken) puts next = elim (cases_eq n line) [
         | inl same ↦ absurd (no_root taken (unused_op n (op.Drop taken) puts same))
-        | inr differs ↦ absurd (poised.clients n (op.Drop taken) puts differs).quiet
+        | inr differs ↦ absurd ((poised.clients n (op.Drop taken) puts differs).quiet)
       ]
         where
           no_root : (taken : List ℕ) → op.Drop taken ≡ root → ⊥
