@@ -61,7 +61,7 @@ same_refusal a b e = cc e
 refused_not_done : (told : Reply) → status.Refused told ≡ status.Done → ⊥
 refused_not_done told e = let k : 1 ≡ 0 = ap told_by_status e in omega (arith, k)
 
-sound_same : (name : List ℕ → Address) (shape : Shape) (r q : Ran) → q.old ≡ r.old → IsSoundStart name shape r → IsSoundStart name shape q
+pub sound_same : (name : List ℕ → Address) (shape : Shape) (r q : Ran) → q.old ≡ r.old → IsSoundStart name shape r → IsSoundStart name shape q
 sound_same name shape r q e h = record {
   bytes = subst (λ (o : Objects). HoldBytes o.disks) (sym e) h.bytes;
   sound = subst (λ (o : Objects). AreSoundAlong (set_of name shape) (taken_lists shape (map (λ disk. list_in disk.seen) o.disks))) (sym e) h.sound;

@@ -11,6 +11,7 @@ pub mod PendingLemmas
 pub mod QuietLemmas
 pub mod RunLemmas
 pub mod RunningLemmas
+pub mod SourceLemmas
 pub mod StatusLemmas
 pub mod StoppedLemmas
 pub mod SurvivesLemmas

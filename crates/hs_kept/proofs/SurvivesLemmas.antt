@@ -62,7 +62,7 @@ module _ (commands : ℕ → Option Command) (name : List ℕ → Address) (limi
   by_who s x (who.Shard g) is = subst (λ (event : Option Event). Never event) (sym (ap (λ (w : Who). event_at commands name s (record x { who = w })) is)) (by_deed g x.deed)
   by_who s x who.Store is = subst (λ (event : Option Event). Never event) (sym (ap (λ (w : Who). event_at commands name s (record x { who = w })) is)) tt
 
-  never_all : (s : Store) (xs : List JournalEntry) → AllByRecursion (NeverDrops key) (events_of commands name limits s xs)
+  pub never_all : (s : Store) (xs : List JournalEntry) → AllByRecursion (NeverDrops key) (events_of commands name limits s xs)
   never_all s [] = tt
   never_all s (x ∷ xs) = go (event_at commands name s x) (by_who s x x.who refl) (λ t. never_all t xs)
     where

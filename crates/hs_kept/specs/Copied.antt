@@ -2,6 +2,8 @@
 use Rattle.std.specs.Prelude.{List, Option, ℕ, ◌≡◌, ◌⊎◌}
 use Rattle.hs_copy.specs.Copied.{IsCopied}
 use Rattle.hs_copy.specs.Writing.{IsCopyRefusal}
+use Rattle.hs_copy.specs.Listing.{KeepsItsOwn}
+use Rattle.hs_files.specs.Client.{IsUnanswered}
 use Rattle.hs_files.specs.Copied.{CopiesRoot, IsInFirst, Shapes, in_first, in_second}
 use Rattle.hs_limits.specs.declared.address.Address.{Address}
 use Rattle.hs_model.specs.declared.command.Command.{Command}
@@ -9,7 +11,7 @@ use Rattle.hs_model.specs.declared.reply.Reply.{Reply}
 use Rattle.hs_model.specs.declared.reply.Reply.TheVariants as reply
 use Rattle.hs_promise.specs.Run.{Ran}
 use Rattle.hs_promise.specs.declared.status.Status.TheVariants as status
-use Rattle.hs_kept.specs.Kept.{AsksPlainly, IsSoundStart, store_behind}
+use Rattle.hs_kept.specs.Kept.{AsksPlainly, IsSoundStart, store_before, store_behind}
 
 -- the disks of both hold bytes, and have sound lists
 pub record AreSoundStarts (name : List ℕ → Address) (shapes : Shapes) (r : Ran) : Type 0 where
@@ -34,3 +36,11 @@ pub record CopiesPlainly (tells : Type 0) (name : List ℕ → Address) (shapes 
 pub record CopiesAndKeeps (tells : Type 0) (name : List ℕ → Address) (shapes : Shapes) (key : List ℕ) (every : Option ℕ) (r : Ran) : Type 0 where
   pub copies : CopiesRoot tells name shapes key every r
   pub plainly : tells → shapes.first.copies ≡ 1 → shapes.second.copies ≡ 1 → AreSoundStarts name shapes r → CopiesPlainly tells name shapes key r
+
+-- ---- the first store
+
+-- of what was asked of the first store nothing was answered; or it is a legal run of the plain store, behind which it has each root and block that a root kept at its opening
+pub data FirstStays (tells : Type 0) (name : List ℕ → Address) (shapes : Shapes) (r : Ran) : Type 0 where
+  Unasked : IsUnanswered (in_first shapes.first r.ending r) → FirstStays tells name shapes r
+  Asked : (one : Ran) → IsInFirst shapes.first r one → (reads : ℕ → Option Command) → AsksPlainly tells name shapes.first one reads
+      → KeepsItsOwn (store_before name shapes.first one) (store_behind name shapes.first reads one) → FirstStays tells name shapes r

@@ -1,7 +1,8 @@
 //! What a copy of a root comes to, in the words of the plain store.
 ghost use Rattle.std.specs.Prelude.{◌≡◌, ℕ, List, Option};
-ghost use Rattle.hs_files.specs.Copied.{CopiesRoot, Shapes};
-ghost use Rattle.hs_kept.specs.Copied.{AreSoundStarts, CopiesPlainly};
+ghost use Rattle.hs_files.specs.Copied.{CopiesRoot, Shapes, in_first};
+ghost use Rattle.hs_kept.specs.Copied.{AreSoundStarts, CopiesPlainly, FirstStays};
+ghost use Rattle.hs_kept.specs.Kept.{IsSoundStart};
 ghost use Rattle.hs_limits.specs.declared.address.Address.{Address};
 ghost use Rattle.hs_promise.specs.Run.{Ran};
 ghost use Rattle.hs_standing.specs.Held.{GivesAddresses};
@@ -21,6 +22,22 @@ pub fn a_root_is_copied<D: Disk>()
         → D.tells → shapes.first.copies ≡ 1 → shapes.second.copies ≡ 1 → GivesAddresses name
         → AreSoundStarts name shapes r → CopiesRoot D.tells name shapes key every r
         → CopiesPlainly D.tells name shapes key r }
+{
+    a_run_is_answered();
+    a_run_stands();
+    a_run_goes_on();
+    shard_0_is_led_by_lines();
+    a_store_of_sound_lists_is_right();
+}
+
+/// Where the disks of the first store of a copy tell their contents, with one copy of each shard there, and
+/// hold bytes and sound lists at entry: however the copy ends, each root of its opening that a key retains
+/// is retained behind what was answered, and all that its address leads to stays with the same blocks.
+pub fn a_copied_store_stays<D: Disk>()
+    ensures { (name : List ℕ → Address) (shapes : Shapes) (key : List ℕ) (every : Option ℕ) (r : Ran)
+        → D.tells → shapes.first.copies ≡ 1 → GivesAddresses name
+        → IsSoundStart name shapes.first (in_first shapes.first r.ending r)
+        → CopiesRoot D.tells name shapes key every r → FirstStays D.tells name shapes r }
 {
     a_run_is_answered();
     a_run_stands();
