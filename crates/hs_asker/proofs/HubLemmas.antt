@@ -142,5 +142,6 @@ module _ (tells : Type 0) (e : AtEntry) (found : Found) (first : Running) (openi
       runs = on_disks;
       ended = record { written = λ is. absurd (never_write why is); answered = λ is. absurd (never_write why is); unread = λ some. refl };
       unopened = λ one none. absurd (some_none story none);
+      closed = λ none. absurd (some_none story none);
       served = served left fits later calm;
     }

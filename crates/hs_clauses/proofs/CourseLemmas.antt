@@ -29,7 +29,7 @@ pairs there number moment k zero = []
 pairs there number moment k (suc n) = pair (there k) k (number k) moment ++ pairs there number moment (k + 1) n
 
 -- the items of the taken log of a shard
-abbrev items_for : Shape → List (Option Numbered) → ℕ → ℕ → Option ℕ → List CourseItem
+abbrev pub items_for : Shape → List (Option Numbered) → ℕ → ℕ → Option ℕ → List CourseItem
 items_for shape logs moment shard None = []
 items_for shape logs moment shard (Some peer) = item.Good peer moment ∷ item.Took shard (rank_of (taken_list shape logs shard)).number moment ∷ []
 

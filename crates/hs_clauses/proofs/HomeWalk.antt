@@ -49,7 +49,7 @@ use Rattle.hs_model.specs.declared.deed.Deed.TheVariants as deed
 use Rattle.hs_model.specs.declared.op.Op.{Op}
 use Rattle.hs_model.specs.declared.reply.Reply.TheVariants as reply
 use Rattle.hs_moments.proofs.AloneEventLemmas.{begun, step_is}
-use Rattle.hs_moments.proofs.StepsKeepLemmas.{message_by, unless_by}
+use Rattle.hs_core_copies.proofs.WalkLemmas.{message_by, unless_by}
 use Rattle.hs_ops.specs.declared.step.OpStep.{OpStep}
 use Rattle.hs_ops.specs.declared.step.OpStep.TheVariants.{Answer, Compare, Propose, Wait}
 use Rattle.hs_ops.specs.Operations.{Operation, after_step, bytes_step, effect_step, go_step, new_operation}

@@ -14,7 +14,7 @@ use Rattle.hs_fold.specs.Shards.Setting.{Numbered}
 use Rattle.hs_journal.specs.Notes.{is_first_noted}
 use Rattle.hs_model.specs.declared.course.CourseItem.{CourseItem}
 use Rattle.hs_ports.specs.Moments.{disk_at}
-use Rattle.hs_promise.specs.Entry.{entry_logs, is_aside, is_no_took, opens_good}
+use Rattle.hs_promise.specs.Entry.{entry_logs, is_aside, tells_aside}
 use Rattle.hs_promise.specs.Found.{IsReadAs}
 use Rattle.hs_promise.specs.Machine.{Went}
 use Rattle.hs_promise.specs.Run.{Ran, Script}
@@ -29,20 +29,13 @@ pub some_there : (o : Option Numbered) → IsSome o → (list : Numbered) × (o 
 some_there None e = absurd (cc e)
 some_there (Some list) e = (list, refl)
 
-none_begins : (n p : ℕ) → list_any (is_good_of p) (take n []) ≡ false
-none_begins zero p = refl
-none_begins (suc n) p = refl
-
--- a course that a Good begins has items
-some_items : (shards p : ℕ) (course : List CourseItem) → begins shards course p ≡ true → (length course == 0) ≡ false
-some_items shards p [] is = absurd (true≢false (sym is ∙ none_begins (shards + shards) p))
-some_items shards p (i ∷ items) is = ne_eqb (length (i ∷ items)) 0 (λ same. omega (arith, same))
-
 -- a peer whose Good begins the course was not set aside
 pub begins_counts : (S : Script) (r : Ran) (p : ℕ) → begins S.set.shape.shards r.course p ≡ true → is_aside S r p ≡ false
-begins_counts S r p is =
-    ap (λ c. if c then is_first_noted p (r.journal ++ r.refused) else not (opens_good S.set.shape.shards r.course p)) (some_items S.set.shape.shards p r.course is)
-    ∙ ap (λ b. not (b || list_any (is_good_of p) (take_while is_no_took (drop (S.set.shape.shards + S.set.shape.shards) r.course)))) is
+begins_counts S r p is = ap (λ b. list_any (tells_aside r.course p) (r.journal ++ r.refused) && not b) is ∙ never (list_any (tells_aside r.course p) (r.journal ++ r.refused))
+  where
+    never : (b : Bool) → (b && false) ≡ false
+    never true = refl
+    never false = refl
 
 module _ (S : Script) (r : Ran) (story : Story) (went : Went S r story) (one : S.set.shape.copies ≡ 1) where
   -- who has a log begins the course, so its disk counts

@@ -63,6 +63,7 @@ pub record Silent (a b : Core) : Type 0 where
   pub journal : b.journal ≡ a.journal
   pub refused : b.refused ≡ a.refused
   pub entries : b.entries ≡ a.entries
+  pub moment : b.moment ≡ a.moment
 
 view_silent : (shard : ℕ) (c : Core) → Silent c (begin_view shard c)
 view_silent shard c = go (lead_of shard posted)
@@ -77,22 +78,22 @@ view_silent shard c = go (lead_of shard posted)
     sent = post (proposal (kind.View (view_of shard posted.members)) (group_of shard posted)) (change_group shard (propose (kind.View (view_of shard posted.members))) posted)
 
     go : (lead : Option ℕ) → Silent c (change_with lead (λ peer. add_entry_tasks peer (last_number (group_of shard posted) + 1) (kind.View (view_of shard posted.members))) sent)
-    go None = record { members = refl; catalogues = refl; journal = refl; refused = refl; entries = refl }
-    go (Some peer) = record { members = refl; catalogues = refl; journal = refl; refused = refl; entries = refl }
+    go None = record { members = refl; catalogues = refl; journal = refl; refused = refl; entries = refl; moment = refl }
+    go (Some peer) = record { members = refl; catalogues = refl; journal = refl; refused = refl; entries = refl; moment = refl }
 
 change_silent : (shard : ℕ) (c : Core) → Silent c (change_view shard c)
 change_silent shard c = go (has_good shard c.members)
   where
     go : (b : Bool) → Silent c (change_if b (begin_view shard) c)
     go true = view_silent shard c
-    go false = record { members = refl; catalogues = refl; journal = refl; refused = refl; entries = refl }
+    go false = record { members = refl; catalogues = refl; journal = refl; refused = refl; entries = refl; moment = refl }
 
-all_silent : (shards : List ℕ) (c : Core) → Silent c (each shards change_view c)
-all_silent [] c = record { members = refl; catalogues = refl; journal = refl; refused = refl; entries = refl }
+pub all_silent : (shards : List ℕ) (c : Core) → Silent c (each shards change_view c)
+all_silent [] c = record { members = refl; catalogues = refl; journal = refl; refused = refl; entries = refl; moment = refl }
 all_silent (s ∷ shards) c =
     let one : Silent c (change_view s c) = change_silent s c in
     let rest : Silent (change_view s c) (each shards change_view (change_view s c)) = all_silent shards (change_view s c) in
-    record { members = rest.members ∙ one.members; catalogues = rest.catalogues ∙ one.catalogues; journal = rest.journal ∙ one.journal; refused = rest.refused ∙ one.refused; entries = rest.entries ∙ one.entries }
+    record { members = rest.members ∙ one.members; catalogues = rest.catalogues ∙ one.catalogues; journal = rest.journal ∙ one.journal; refused = rest.refused ∙ one.refused; entries = rest.entries ∙ one.entries; moment = rest.moment ∙ one.moment }
 
 -- ---- the notes
 

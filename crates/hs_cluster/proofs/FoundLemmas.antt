@@ -26,11 +26,12 @@ use Rattle.hs_members.specs.Members.{all_peers, home_of, peers_of}
 use Rattle.hs_memory.specs.Forget.{apply_all}
 use Rattle.hs_model.specs.declared.course.CourseItem.{CourseItem}
 use Rattle.hs_model.specs.declared.course.CourseItem.TheVariants as item
+use Rattle.hs_peerlog.specs.Images.{IsAny}
 use Rattle.hs_peerlog.specs.Lists.{HasLog, IsKept, Keeping}
 use Rattle.hs_ports.specs.Fault.{HasRisen}
 use Rattle.hs_shard.specs.Facts.{empty_catalogue}
 use Rattle.hs_side.specs.Current.{list_in}
-use Rattle.hs_taking.specs.Copies.{HasEvened, HasShard, IsCopy, IsOf, IsLostOf, begun_list}
+use Rattle.hs_taking.specs.Copies.{HasEvened, HasShard, IsCopy, IsHadOrFront, IsOf, IsLostOf, LeavesBy, begun_list}
 use Rattle.hs_taking.specs.declared.shares.Share.{Share}
 use Rattle.hs_taking.specs.Disks.{DiskSeen, log_at, seen_at}
 use Rattle.hs_taking.specs.Shares.{KeepsDisk, Span, Taken, all_lost, lost_of, no_share, share_at}
@@ -451,6 +452,16 @@ module _ (tells : Type 0) (set : Setting) (span : Span) (taken : Taken) (some : 
           subst (λ l. IsKept keeping (new.stands.seen keeping.log.side) l None) (sym (opened_here keeping at))
           (copy.reads told keeping at (read_as keeping at told ∙ ap (λ (l : Numbered). Some l) (opened_here keeping at)))
 
+    -- ---- at each moment
+
+    leaves : LeavesBy tells span.before span.now old new (IsHadOrFront (taken_list set.shape found.logs s))
+    leaves = subst (λ l. LeavesBy tells span.before span.now old new (IsHadOrFront l)) (sym (list_is s s_low)) ((shard_at s s_low).is.leaves.others peer (of_home peer))
+
+    its_own : is_taken set.shape found.logs peer ≡ true → LeavesBy tells span.before span.now old new IsAny
+    its_own there =
+        let parts = both_true (is_some (share_at taken s).took) (first s == peer) (sym (taken_is peer low) ∙ there) in
+        subst (λ p. LeavesBy tells span.before span.now (seen_at span.old p) (seen_at span.new p) IsAny) (eqb-true (first s) peer parts.1) (shard_at s s_low).is.leaves.taken
+
     pub is_found : IsFound tells set span found taken.logs peer
     is_found = record {
       read = read;
@@ -462,6 +473,8 @@ module _ (tells : Type 0) (set : Setting) (span : Span) (taken : Taken) (some : 
       reads = reads;
       past = copy.disk.past;
       disk = λ one. subst (λ p. KeepsDisk tells span.before span.now (seen_at span.old p) (seen_at span.new p)) (first_is one) (shard_at s s_low).is.disk;
+      leaves = leaves;
+      taken = its_own;
     }
 
     pub all_here : is_taken set.shape found.logs peer ≡ true → starts_good found peer ≡ false → (moment : ℕ) × Contains (all_lost taken) (peer, moment)

@@ -41,7 +41,7 @@ use Rattle.hs_model.specs.declared.deed.Deed.TheVariants as deed
 use Rattle.hs_model.specs.declared.reply.Reply.{Reply}
 use Rattle.hs_model.specs.declared.reply.Reply.TheVariants as reply
 use Rattle.hs_moments.proofs.AloneEventLemmas.{begun, step_is}
-use Rattle.hs_moments.proofs.StepsKeepLemmas.{StepLeaves, keeps_begin_line, keeps_commits, keeps_propose_due, keeps_send_rounds, keeps_tell_bytes, message_by, unless_by}
+use Rattle.hs_core_copies.proofs.WalkLemmas.{StepLeaves, keeps_begin_line, keeps_commits, keeps_propose_due, keeps_send_rounds, keeps_tell_bytes, message_by, unless_by}
 use Rattle.hs_post.specs.declared.message.Message.{Message}
 use Rattle.hs_post.specs.declared.message.Message.TheVariants as message
 use Rattle.hs_post.specs.Pool.{is_full, without}

@@ -34,7 +34,7 @@ use Rattle.hs_moments.proofs.AloneLemmas.{alone, is_alone, renew_alone, renewal_
 use Rattle.hs_moments.proofs.AloneStepLemmas.{GoesOn, nowhere, proposes, steps_go_on}
 use Rattle.hs_moments.proofs.JobLemmas.{above_front, are_grow, counts_on, settles}
 use Rattle.hs_moments.proofs.MoveLemmas.{Goes, Moves, moves_at, moves_both, moves_same}
-use Rattle.hs_moments.proofs.StepsKeepLemmas.{keeps_each, keeps_if}
+use Rattle.hs_core_copies.proofs.WalkLemmas.{keeps_each, keeps_if}
 use Rattle.hs_post.specs.declared.message.Message.{Message}
 use Rattle.hs_replica.specs.Group.{Group, entries_above, last_number, new_group, renew, renewal, tell, whole_copy}
 

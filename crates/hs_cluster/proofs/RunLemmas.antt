@@ -9,6 +9,7 @@ use Rattle.hs_cluster.proofs.GoingOnLemmas.{going_before}
 use Rattle.hs_cluster.proofs.HeadLemmas.{header_wait, heads_behind, heads_next}
 use Rattle.hs_cluster.proofs.OpenedLemmas.{opens_so}
 use Rattle.hs_cluster.proofs.PastLemmas.{leaves_then}
+use Rattle.hs_cluster.proofs.PeerShowLemmas.{steady_back, steady_front}
 use Rattle.hs_cluster.proofs.RoomLemmas.{rooms_then}
 use Rattle.hs_cluster.proofs.StretchLemmas.{lists_then, rises_to, runs_append, runs_core, steps_shape, stored_back, stored_front, told_then}
 use Rattle.hs_cluster.proofs.TurnedLemmas.{not_ended}
@@ -17,11 +18,13 @@ use Rattle.hs_cluster.specs.declared.fault.ClusterFault.{ClusterFault}
 use Rattle.hs_cluster.specs.Disks.{DiskSeen, seen_at, stands_of}
 use Rattle.hs_cluster.specs.Headed.{IsHeadedAt, IsOwnAt, LeavesHeads}
 use Rattle.hs_cluster.specs.Kept.{AreStored, CanGoOn, CanRead, LeavesLists, Shows, Span}
-use Rattle.hs_cluster.specs.Opens.{LeaveOneList, Opens}
+use Rattle.hs_cluster.specs.Opens.{LeaveOneList, Opens, OpensLists}
 use Rattle.hs_cluster.specs.Past.{HoldsLog, LeavesPast}
+use Rattle.hs_cluster.specs.PeerLogs.{KeepsPeers}
 use Rattle.hs_cluster.specs.Rooms.{HaveRecordRoom}
 use Rattle.hs_cluster.specs.Running.{Running}
 use Rattle.hs_cluster.specs.RunsOn.{CanRunOn, RunsOn}
+use Rattle.hs_cluster.specs.Steady.{AreSteady}
 use Rattle.hs_core_words.specs.State.{Core}
 use Rattle.hs_events.specs.Course.{happened, steps}
 use Rattle.hs_events.specs.Due.{Events, MomentsRise}
@@ -66,10 +69,11 @@ runs_opened tells set s cluster done o = record {
   lists = o.lists;
   told = o.told;
   read = o.read;
+  copies = λ told called c opens steady. (o.copies told).lists c (opens.core ∙ sym o.begins) steady (o.peers told called c opens);
 }
 
 pub can_opened : (tells : Type 0) (set : Setting) (s : Taking) (cluster : Running) (done : Result ⊤ ClusterFault) (o : Opens tells set s cluster done) → OnOk done (CanRunOn tells set (opening_span s o.begun cluster) o.found o.events)
-can_opened tells set s cluster (Ok tt) o = record { calm = o.calm; holds = λ one told peer last. (o.past one told peer last).holds; owns = λ told peer own. heads_behind (own_header set.shape peer) s.before s.now s.old s.new cluster.logs peer (o.headed told peer own); goes = λ one told sound. o.goes_on one told sound; reads = λ one told. o.reads_on one told }
+can_opened tells set s cluster (Ok tt) o = record { calm = o.calm; holds = λ one told peer last. (o.past one told peer last).holds; owns = λ told peer own. heads_behind (own_header set.shape peer) s.before s.now s.old s.new cluster.logs peer (o.headed told peer own); goes = λ one told sound. o.goes_on one told sound; reads = λ one told. o.reads_on one told; keeps = λ told called c opens steady. (o.copies told).goes_on c (opens.core ∙ sym o.begins) steady (o.peers told called c opens) }
 can_opened tells set s cluster (Err fault) o = tt
 
 -- ---- the events of a line
@@ -112,6 +116,28 @@ module _ (tells : Type 0) (set : Setting) (found : Found) (before mid now : ℕ)
   heads told peer own = heads_next (own_header set.shape peer) before mid now disks between left new.logs r peer (so_far.headed told peer own)
       (subst (λ (s : Shape). IsHeadedAt (own_header s peer) mid here.logs between peer → LeavesHeads (own_header s peer) mid now between left new.logs r peer) shape_is (shows.headed told peer) (can.owns told peer own))
 
+  -- ---- with any number of copies
+
+  module _ (told : tells) (called : (peer : ℕ) → (seen_at disks peer).stands.last ≤ before) (x : Whole) (opens : OpensLists set found x) (steady : AreSteady x (es ++ fs)) where
+    x_goes : (steps x.core es).ended ≡ None
+    x_goes = ap (λ y. (steps y es).ended) opens.core ∙ goes
+
+    x_front : AreSteady x es
+    x_front = steady_front x es fs x_goes steady
+
+    x_core : (runs whole_machine x es).core ≡ here.core
+    x_core = runs_core x es ∙ ap (λ y. steps y es) opens.core ∙ sym core
+
+    x_lists : LeavesLists x (es ++ fs) (record { before = found.opened; now = now; old = begun; new = new; disks = so_far.disks; left = left })
+    x_lists =
+        lists_then x es fs found.opened mid now begun here new so_far.disks between left x_goes rises on (so_far.copies told called x opens x_front)
+        ((shows.copies told).lists (runs whole_machine x es) x_core (steady_back x es fs steady) (can.keeps told called x opens x_front))
+
+    x_keeps : OnOk r (KeepsPeers (runs whole_machine x (es ++ fs)) new.logs left now)
+    x_keeps =
+        subst (λ s. OnOk r (KeepsPeers s new.logs left now)) (sym (runs_append x es fs))
+        ((shows.copies told).goes_on (runs whole_machine x es) x_core (steady_back x es fs steady) (can.keeps told called x opens x_front))
+
   pub runs_more : RunsOn tells set (record { before = before; now = now; old = begun; new = new; disks = disks; left = left }) found (es ++ fs)
   runs_more = record {
     slots = so_far.slots;
@@ -129,24 +155,27 @@ module _ (tells : Type 0) (set : Setting) (found : Found) (before mid now : ℕ)
     read = λ one told first stored.
         all_then (first_core set found) here.core es fs so_far.disks between left core (so_far.read one told first (stored_front c es fs stored))
         (shows.read told behind behind_core (can.reads one told) (stored_back c es fs stored));
+    copies = x_lists;
   }
 
   pub can_more : OnOk r (CanRunOn tells set (record { before = before; now = now; old = begun; new = new; disks = disks; left = left }) found (es ++ fs))
   can_more =
       by r (λ one. shows.calm disks (can.calm one)) (λ one told peer last. (past one told peer last).holds) heads (λ one told sound. shows.goes_on told behind behind_core (can.goes one told sound))
-      (λ one told. shows.reads_on told behind behind_core (can.reads one told))
+      (λ one told. shows.reads_on told behind behind_core (can.reads one told)) x_keeps
     where
       by : (r : Result ⊤ ClusterFault) → (set.shape.copies ≡ 1 → OnOk r (GoesCalmly new.core disks left)) → (set.shape.copies ≡ 1 → tells → (peer : ℕ) → (disk_at (stands_of disks) peer).last ≤ before → OnOk r (HoldsLog now new.logs left peer))
           → (tells → (peer : ℕ) → IsOwnAt set.shape before disks peer → LeavesHeads (own_header set.shape peer) before now disks left new.logs r peer)
           → (set.shape.copies ≡ 1 → tells → LeaveOneList before disks → OnOk r (CanGoOn (runs whole_machine behind fs) new.logs left now)) → (set.shape.copies ≡ 1 → tells → OnOk r (CanRead (runs whole_machine behind fs) new.logs left))
+          → (tells → ((peer : ℕ) → (seen_at disks peer).stands.last ≤ before) → (x : Whole) → OpensLists set found x → AreSteady x (es ++ fs) → OnOk r (KeepsPeers (runs whole_machine x (es ++ fs)) new.logs left now))
           → OnOk r (CanRunOn tells set (record { before = before; now = now; old = begun; new = new; disks = disks; left = left }) found (es ++ fs))
-      by (Err fault) calm holds own h g = tt
-      by (Ok tt) calm holds own h g = record {
+      by (Err fault) calm holds own h g k = tt
+      by (Ok tt) calm holds own h g k = record {
         calm = calm;
         holds = holds;
         owns = λ told peer is. heads_behind (own_header set.shape peer) before now disks left new.logs peer (own told peer is);
         goes = λ one told sound. subst (λ s. CanGoOn s new.logs left now) (sym (runs_append c es fs)) (h one told sound);
         reads = λ one told. subst (λ s. CanRead s new.logs left) (sym (runs_append c es fs)) (g one told);
+        keeps = k;
       }
 
 -- ---- time alone
@@ -196,6 +225,7 @@ runs_later tells set found before now later begun cluster disks left es ticks ri
   lists = λ one told sound first. lists_later (open_whole set found) es before now later begun cluster disks left ticks (rises_from before found.opened now es so_far.finds.later rises) (since told) (so_far.lists one told sound first);
   told = so_far.told;
   read = so_far.read;
+  copies = λ told called x opens steady. lists_later x es found.opened now later begun cluster so_far.disks left ticks rises (since told) (so_far.copies told called x opens steady);
 }
 
 pub can_later : (tells : Type 0) (set : Setting) (found : Found) (before now later : ℕ) (begun cluster : Running) (disks left : List DiskSeen) (es : Events) → now ≤ later
@@ -217,6 +247,9 @@ can_later tells set found before now later begun cluster disks left es ticks can
         keeps = later-keeps whole_machine (runs whole_machine (open_whole set found) es) now later (stands_of left) ticks so_far.keeps;
       };
   reads = can.reads;
+  keeps = λ told called x opens steady.
+      let so_far = can.keeps told called x opens steady in
+      record { listed = so_far.listed; keeps = later-keeps whole_machine (runs whole_machine x es) now later (stands_of left) ticks so_far.keeps; headed = so_far.headed };
 }
 
 -- ---- failed calls from entry on

@@ -15,13 +15,13 @@ use Rattle.hs_events.specs.Beginning.{first_items}
 use Rattle.hs_events.specs.Course.{items_of, steps}
 use Rattle.hs_events.specs.Due.{Events, MomentsRise, is_walk, next_turn}
 use Rattle.hs_events.specs.Found.{Found, first_core, opened_list, starts_good}
-use Rattle.hs_events.specs.Taken.{is_taken, peer_count}
+use Rattle.hs_events.specs.Taken.{is_taken, peer_count, taken_list}
 use Rattle.hs_events.specs.Sane.{appended_of}
 use Rattle.hs_events.specs.Whole.{Whole, counts, floor, open_whole, reach}
 use Rattle.hs_fold.specs.Shards.Setting.{Numbered, Setting}
 use Rattle.hs_moments.specs.Machine.{runs}
 use Rattle.hs_moments.specs.WholeMachine.{IsFrontOf, last_of, whole_machine}
-use Rattle.hs_peerlog.specs.Images.{LeavesOnly}
+use Rattle.hs_peerlog.specs.Images.{IsAny, LeavesOnly}
 use Rattle.hs_peerlog.specs.declared.fault.LogFault.TheVariants as log
 use Rattle.hs_peerlog.specs.Lists.{HasLog, IsKept, Keeping}
 use Rattle.hs_peerlog.specs.Opening.{refusal_in}
@@ -31,6 +31,7 @@ use Rattle.hs_ports.specs.Moments.{disk_at}
 use Rattle.hs_side.specs.Current.{list_in}
 use Rattle.hs_side.specs.declared.header.Header.{Header}
 use Rattle.hs_side.specs.Headers.{own_header}
+use Rattle.hs_taking.specs.Copies.{IsHadOrFront, LeavesBy}
 use Rattle.hs_taking.specs.Disks.{DiskSeen, log_at, seen_at, stands_of}
 use Rattle.hs_taking.specs.Headed.{OwnTheirLogs}
 use Rattle.hs_taking.specs.Past.{PastStays}
@@ -57,6 +58,7 @@ pub record IsLeftBehind (set : Setting) (found : Found) (peer : ℕ) : Type 0 wh
 -- reads: with one copy a shard, reads of the disk give it, however the disk was
 -- past: what is past of its disk stays
 -- disk: with one copy a shard, the calls on its disk leave its list as it is, at each moment
+-- leaves, taken: at each moment its disk leaves a list that it could leave at entry, or a front of the one that is taken; that of the taken log only one that it could leave at entry
 pub record IsFound (tells : Type 0) (set : Setting) (span : Span) (found : Found) (logs : List (Option Keeping)) (peer : ℕ) : Type 0 where
   pub read : tells → (log_in found peer ≡ list_in (seen_at span.old peer).stands.seen)
       ⊎ ((log_in found peer ≡ None) × HasRisen (seen_at span.old peer).faults (seen_at span.new peer).faults)
@@ -70,6 +72,8 @@ pub record IsFound (tells : Type 0) (set : Setting) (span : Span) (found : Found
       → IsKept keeping ((seen_at span.new peer).stands.seen keeping.log.side) (opened_list set found (home_of set.shape peer)) None
   pub past : tells → (seen_at span.old peer).stands.last ≤ span.before → PastStays span.before span.now (seen_at span.old peer).stands (seen_at span.new peer).stands
   pub disk : set.shape.copies ≡ 1 → KeepsDisk tells span.before span.now (seen_at span.old peer) (seen_at span.new peer)
+  pub leaves : LeavesBy tells span.before span.now (seen_at span.old peer) (seen_at span.new peer) (IsHadOrFront (taken_list set.shape found.logs (home_of set.shape peer)))
+  pub taken : is_taken set.shape found.logs peer ≡ true → LeavesBy tells span.before span.now (seen_at span.old peer) (seen_at span.new peer) IsAny
 
 -- a peer of a taken log whose disk failed before the core was opened, and when
 pub record IsLostLog (tells : Type 0) (set : Setting) (span : Span) (found : Found) (x : ℕ × ℕ) : Type 0 where

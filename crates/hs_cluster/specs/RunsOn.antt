@@ -5,12 +5,14 @@ use Rattle.hs_cluster.specs.Counts.{AreAllCounted, AreCounted, NoneFalls}
 use Rattle.hs_cluster.specs.Disks.{DiskSeen, seen_at, stands_of}
 use Rattle.hs_cluster.specs.Headed.{IsHeadedAt, IsOwnAt, LeavesItsHeader}
 use Rattle.hs_cluster.specs.Kept.{AreStored, AreTold, CanGoOn, CanRead, LeavesLists, Span}
-use Rattle.hs_cluster.specs.Opens.{Finds, LeaveOneList}
+use Rattle.hs_cluster.specs.Opens.{Finds, LeaveOneList, OpensLists}
 use Rattle.hs_cluster.specs.Past.{HoldsLog}
+use Rattle.hs_cluster.specs.PeerLogs.{KeepsPeers}
 use Rattle.hs_cluster.specs.Rooms.{HaveRecordRoom}
+use Rattle.hs_cluster.specs.Steady.{AreSteady}
 use Rattle.hs_events.specs.Due.{Events}
 use Rattle.hs_events.specs.Found.{Found, first_core}
-use Rattle.hs_events.specs.Whole.{open_whole}
+use Rattle.hs_events.specs.Whole.{Whole, open_whole}
 use Rattle.hs_fold.specs.Shards.Setting.{Setting}
 use Rattle.hs_moments.specs.Machine.{runs}
 use Rattle.hs_moments.specs.WholeMachine.{whole_machine}
@@ -23,6 +25,10 @@ use Rattle.hs_side.specs.declared.header.Header.{Header}
 use Rattle.hs_side.specs.Headers.{own_header}
 use Rattle.hs_taking.specs.Past.{PastStays}
 
+-- the same run from the opening of its core on, with these disks then
+abbrev pub from_opening : Found → List DiskSeen → Span → Span
+from_opening found disks span = record { before = found.opened; now = span.now; old = span.old; new = span.new; disks = disks; left = span.left }
+
 -- what opening found; that counts of faults rose as the reports tell; and, with one copy a shard, of disks that tell their contents, where a stop at entry leaves one list of each, the lists at each moment
 -- slots, disks: the logs in use right before the first turn, and the disks then
 -- own: a disk of another store failed
@@ -30,6 +36,7 @@ use Rattle.hs_taking.specs.Past.{PastStays}
 -- past: what is past of each disk stays, where no call of it was ahead
 -- headed: with any number of copies, where a stop at entry left no header on the disk of a peer but its own, it leaves none at any moment
 -- told, read: however the disks were at entry: what was told of blocks; and that reads too cost what they tell of failed calls, where the lists have what the catalogues say
+-- copies: with any number of copies, where no call of a disk was ahead at entry: of a core whose lists begin as its shards opened and go on as they should, the lists at each moment from its opening on, and what was told of blocks
 pub record RunsOn (tells : Type 0) (set : Setting) (span : Span) (found : Found) (events : Events) : Type 0 where
   pub slots : List (Option Keeping)
   pub disks : List DiskSeen
@@ -45,6 +52,7 @@ pub record RunsOn (tells : Type 0) (set : Setting) (span : Span) (found : Found)
   pub lists : set.shape.copies ≡ 1 → tells → LeaveOneList span.before span.disks → (first_core set found).ended ≡ None → LeavesLists (open_whole set found) events span
   pub told : set.shape.copies ≡ 1 → tells → (first_core set found).ended ≡ None → AreTold (open_whole set found) events
   pub read : set.shape.copies ≡ 1 → tells → (first_core set found).ended ≡ None → AreStored (open_whole set found) events → AreAllCounted (first_core set found) events disks span.left
+  pub copies : tells → ((peer : ℕ) → (seen_at span.disks peer).stands.last ≤ span.before) → (c : Whole) → OpensLists set found c → AreSteady c events → LeavesLists c events (from_opening found disks span)
 
 -- and what it needs to go on, where its core does, with one copy a shard
 pub record CanRunOn (tells : Type 0) (set : Setting) (span : Span) (found : Found) (events : Events) : Type 0 where
@@ -56,3 +64,5 @@ pub record CanRunOn (tells : Type 0) (set : Setting) (span : Span) (found : Foun
   pub owns : tells → (peer : ℕ) → IsOwnAt set.shape span.before span.disks peer → IsHeadedAt (own_header set.shape peer) span.now span.new.logs span.left peer
   pub goes : set.shape.copies ≡ 1 → tells → LeaveOneList span.before span.disks → CanGoOn (runs whole_machine (open_whole set found) events) span.new.logs span.left span.now
   pub reads : set.shape.copies ≡ 1 → tells → CanRead (runs whole_machine (open_whole set found) events) span.new.logs span.left
+  -- with any number of copies the logs have what such lists tell of them, and the disks begin them
+  pub keeps : tells → ((peer : ℕ) → (seen_at span.disks peer).stands.last ≤ span.before) → (c : Whole) → OpensLists set found c → AreSteady c events → KeepsPeers (runs whole_machine c events) span.new.logs span.left span.now

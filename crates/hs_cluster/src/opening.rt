@@ -12,6 +12,7 @@ ghost use Rattle.hs_members.specs.Members.{IsPeer, all_peers, is_joining};
 ghost use Rattle.hs_side.specs.declared.header.Header.{Header};
 ghost use Rattle.hs_side.specs.Headers.{own_header};
 ghost use Rattle.hs_taking.specs.Headed.{KeepsItsHeader};
+ghost use Rattle.hs_taking.specs.Opening.{LeavesShard};
 ghost use Rattle.hs_taking.specs.Spared.{SparesDisks};
 ghost use Rattle.hs_taking.specs.Viewed.{IsOnlyRead};
 
@@ -102,8 +103,15 @@ impl Cluster {
           old = map (λ disk. seen_as (D.size disk) (D.stands disk) (D.faults disk)) disks.old;
           new = map (λ disk. seen_as (D.size disk) (D.stands disk) (D.faults disk)) disks.new;
         })) }
-        // And, with any number of copies, a stop leaves no header on the disk of a peer but its own,
-        // where it left none before.
+        // And, with any number of copies, what a stop leaves of each shard's disks meanwhile.
+        ensures shards { OnErr result ((shard : ℕ) → shard < shape.shards
+            → LeavesShard D.tells shape (record {
+              before = watch.old;
+              now = watch.new;
+              old = map (λ disk. seen_as (D.size disk) (D.stands disk) (D.faults disk)) disks.old;
+              new = map (λ disk. seen_as (D.size disk) (D.stands disk) (D.faults disk)) disks.new;
+            }) shard) }
+        // And a stop leaves no header on the disk of a peer but its own, where it left none before.
         ensures headed { OnErr result ((peer : ℕ) → peer < length disks.old
             → KeepsItsHeader D.tells (own_header shape peer) watch.old watch.new
             (seen_at (map (λ disk. seen_as (D.size disk) (D.stands disk) (D.faults disk))
@@ -190,6 +198,12 @@ impl Cluster {
         ensures counted { NoneFalls
             (map (λ disk. seen_as (D.size disk) (D.stands disk) (D.faults disk)) disks.old)
             (map (λ disk. seen_as (D.size disk) (D.stands disk) (D.faults disk)) disks.new) }
+        ensures shards { (shard : ℕ) → shard < shape.shards → LeavesShard D.tells shape (record {
+          before = watch.old;
+          now = watch.new;
+          old = map (λ disk. seen_as (D.size disk) (D.stands disk) (D.faults disk)) disks.old;
+          new = map (λ disk. seen_as (D.size disk) (D.stands disk) (D.faults disk)) disks.new;
+        }) shard }
         ensures keeps { shape.copies ≡ 1 → LeavesAsTaken D.tells (record {
           before = watch.old;
           now = watch.new;

@@ -1,90 +1,67 @@
 -- What an event leaves of a core, whatever it does.
-use Rattle.std.proofs.Common.{◌≡◌, ◌∙◌, ap, ℕ, ◌+◌, ◌==◌, ◌&&◌, not, Bool, true, false, None, refl, length, nat_lt, is_none}
-use Rattle.std.specs.Prelude.{unwrap_or}
-use Rattle.hs_events.proofs.KeepLemmas.{Leaves, ReportLeaves, keeps_do, with_line}
+use Rattle.std.proofs.Common.{◌≡◌, ◌∙◌, ap, subst, sym, ℕ, ◌+◌, Option, Some, None, refl, is_none}
+use Rattle.hs_anatomy.proofs.AsideLemmas.{kept_propose, kept_with}
+use Rattle.hs_anatomy.proofs.EventLemmas.{does_acts, opening_acts}
+use Rattle.hs_anatomy.proofs.StillLemmas.{kept_still, strokes_keep}
+use Rattle.hs_anatomy.proofs.StrokeLemmas.{strokes_of}
+use Rattle.hs_anatomy.specs.Kept.{Kept}
+use Rattle.hs_anatomy.specs.Strokes.{Adds, Answers, IsStill, Notes, Renews, Stroke, Strokes, TakesOut, Waits, added, new_waiting}
+use Rattle.hs_awaiting.specs.declared.waiting.Waiting.{Waiting}
+use Rattle.hs_awaiting.specs.declared.wait.Wait.TheVariants as wait
 use Rattle.hs_awaiting.specs.Words.{change_if}
-use Rattle.hs_core_words.specs.Calls.{begun_line, last_line_after}
-use Rattle.hs_core_words.specs.Changing.{change_pool}
+use Rattle.hs_core_words.specs.Calls.{last_line_after}
 use Rattle.hs_core_words.specs.declared.event.Event.{Event}
 use Rattle.hs_core_words.specs.declared.event.Event.TheVariants as event
+use Rattle.hs_core_words.specs.Looking.{group_of, lead_of}
+use Rattle.hs_core_words.specs.Opening.{begin_views, note_down}
+use Rattle.hs_core_words.specs.Operating.{add_read, begin_line, busy_line, take_step, wait_for}
+use Rattle.hs_core_words.specs.Seeing.{view_for}
 use Rattle.hs_core_words.specs.State.{Core}
 use Rattle.hs_core_words.specs.Step.{begin_event, do_event, end_event, line_of, run_event, step}
-use Rattle.hs_post.specs.Pool.{is_empty, restart_numbers}
+use Rattle.hs_events.proofs.FrameLemmas.{begun_is, ended_same, frame_done, frame_opens}
+use Rattle.hs_model.specs.declared.op.Op.{Op}
+use Rattle.hs_ops.specs.declared.step.OpStep.{OpStep}
+use Rattle.hs_ops.specs.declared.step.OpStep.TheVariants as step
+use Rattle.hs_ops.specs.Operations.{after_step, go_step}
+use Rattle.hs_replica.specs.Group.{last_number}
 
--- shape, limits, moment and last line
-pub record Stays (old new : Core) : Type 0 where
-  pub shape : new.members.shape ≡ old.members.shape
-  pub limits : new.limits ≡ old.limits
-  pub moment : new.moment ≡ old.moment
-  pub last_line : new.progress.last_line ≡ old.progress.last_line
+-- ---- the last line
 
-stays : (c d : Core) → d.members.shape ≡ c.members.shape → d.limits ≡ c.limits → d.moment ≡ c.moment → d.progress.last_line ≡ c.progress.last_line → Stays c d
-stays c d shape limits moment last_line = record { shape = shape; limits = limits; moment = moment; last_line = last_line }
+-- an operation that takes a step leaves it
+step_last : (line : ℕ) (w : Waiting) (taken : OpStep) (c : Core) → (take_step line w taken c).progress.last_line ≡ c.progress.last_line
+step_last line w (step.Answer told) c = refl
+step_last line w (step.Propose entry) c =
+    let v : Waiting = record w { operation = after_step (step.Propose entry) w.operation } in
+    ap (λ (k : Kept). k.last_line) (kept_propose w.shard entry (wait_for line v (wait.Entry (last_number (group_of w.shard c) + 1)) c))
+step_last line w (step.Compare number) c =
+    let v : Waiting = record w { operation = after_step (step.Compare number) w.operation } in
+    ap (λ (k : Kept). k.last_line) (kept_with (lead_of w.shard c) (add_read number line) (wait_for line v (wait.Bytes number) c) (λ peer x. refl))
+step_last line w step.Wait c = refl
 
-then_stays : (a b c : Core) → Stays a b → Stays b c → Stays a c
-then_stays a b c f g = record { shape = g.shape ∙ f.shape; limits = g.limits ∙ f.limits; moment = g.moment ∙ f.moment; last_line = g.last_line ∙ f.last_line }
+line_last : (line : ℕ) (o : Op) (c : Core) → (begin_line line o c).progress.last_line ≡ line
+line_last line o c =
+    let w : Waiting = new_waiting line o c in
+    step_last line w (go_step (record (view_for w.shard o (record c { progress = record c.progress { last_line = line } })) { busy = busy_line o c }) w.operation) (added line o c)
 
-leaves : Leaves Stays
-leaves = record {
-  same = λ c. stays c c refl refl refl refl;
-  both = then_stays;
-  catalogue = λ shard x c. stays c _ refl refl refl refl;
-  viewed = λ shard x c. stays c _ refl refl refl refl;
-  status = λ peer x c. stays c _ refl refl refl refl;
-  tasks = λ peer x c. stays c _ refl refl refl refl;
-  rejoin = λ peer x c. stays c _ refl refl refl refl;
-  pool = λ x c. stays c _ refl refl refl refl;
-  operations = λ x c. stays c _ refl refl refl refl;
-  sessions = λ x c. stays c _ refl refl refl refl;
-  noted = λ who deed reply c. stays c _ refl refl refl refl;
-  proposes = λ shard entry c. stays c _ refl refl refl refl;
-  takes = λ shard peer entry c. stays c _ refl refl refl refl;
-  hears = λ shard from view sealed c. stays c _ refl refl refl refl;
-  renews = λ shard c. stays c _ refl refl refl refl;
-  commits = λ shard c. stays c _ refl refl refl refl;
-}
-
-report_leaves : ReportLeaves Stays
-report_leaves = record {
-  seals = λ shard peer number c. stays c _ refl refl refl refl;
-  empties = λ shard peer c. stays c _ refl refl refl refl;
-  copies = λ shard peer number c. stays c _ refl refl refl refl;
-}
-
--- an event begins
-begins_so : (b : Bool) (at line : ℕ) (c : Core) → Stays (record c { moment = at }) (record (change_if b (change_pool restart_numbers) c) { moment = at; progress = record c.progress { event_line = line } })
-begins_so true at line c = stays (record c { moment = at }) _ refl refl refl refl
-begins_so false at line c = stays (record c { moment = at }) _ refl refl refl refl
-
-begins : (line at : ℕ) (c : Core) → Stays (record c { moment = at }) (begin_event line at c)
-begins line at c = begins_so ((c.progress.event_line == 0 && not (line == 0)) && is_empty c.pool) at _ c
-
-ends : (c : Core) → Stays c (end_event c)
-ends c = go (nat_lt c.limits.ops (length c.journal + length c.entries)) refl
+-- so does each stroke, but for a line that begins
+strokes_last : {s : Core} {e : Option Event} → ((line : ℕ) (o : Op) → e ≡ Some (event.Line line o) → ⊥) → (b : Core) → Strokes s e b → b.progress.last_line ≡ s.progress.last_line
+strokes_last {s = s} {e = e} calm b xs = strokes_keep (λ c. c.progress.last_line ≡ s.progress.last_line) (λ x y one same. by one ∙ same) b xs refl
   where
-    go : (b : Bool) → nat_lt c.limits.ops (length c.journal + length c.entries) ≡ b → Stays c (end_event c)
-    go true e = rw e (stays c _ refl refl refl refl)
-    go false e = rw e (stays c _ refl refl refl refl)
+    by : {x : Core} {y : Core} → Stroke s e x y → y.progress.last_line ≡ x.progress.last_line
+    by (IsStill still) = ap (λ (k : Kept). k.last_line) (kept_still still)
+    by (Notes why) = refl
+    by (Adds line o start is) = absurd (calm line o is)
+    by (Waits line w was at one) = refl
+    by (Answers line w was told at one why) = refl
+    by (TakesOut shard number entry next) = refl
+    by (Renews shard) = refl
 
--- with the line that it begins
-record HasLine (e : Event) (c d : Core) : Type 0 where
-  pub shape : d.members.shape ≡ c.members.shape
-  pub limits : d.limits ≡ c.limits
-  pub moment : d.moment ≡ c.moment
-  pub last_line : d.progress.last_line ≡ last_line_after e c
+does_last : (e : Event) (c : Core) → (do_event e c).progress.last_line ≡ last_line_after e c
+does_last (event.Line line o) c = line_last line o c
+does_last other c = strokes_last (λ line o is. cc is) (do_event other c) (strokes_of (does_acts c other))
 
-lined : (e : Event) (c : Core) → HasLine e c (with_line e c)
-lined (event.Line line o) c = record { shape = refl; limits = refl; moment = refl; last_line = refl }
-lined (event.Report peer d) c = record { shape = refl; limits = refl; moment = refl; last_line = refl }
-lined (event.Turn line peer) c = record { shape = refl; limits = refl; moment = refl; last_line = refl }
-lined (event.Deliver line number) c = record { shape = refl; limits = refl; moment = refl; last_line = refl }
-lined (event.Lose line number) c = record { shape = refl; limits = refl; moment = refl; last_line = refl }
-lined (event.Repeat line number) c = record { shape = refl; limits = refl; moment = refl; last_line = refl }
-lined (event.Nudge line peer) c = record { shape = refl; limits = refl; moment = refl; last_line = refl }
-lined (event.Fail line peer) c = record { shape = refl; limits = refl; moment = refl; last_line = refl }
-lined (event.Start line peer) c = record { shape = refl; limits = refl; moment = refl; last_line = refl }
+-- ---- an event that is done
 
--- what an event that is done leaves
 pub record Goes (e : Event) (at : ℕ) (old new : Core) : Type 0 where
   pub shape : new.members.shape ≡ old.members.shape
   pub limits : new.limits ≡ old.limits
@@ -94,18 +71,34 @@ pub record Goes (e : Event) (at : ℕ) (old new : Core) : Type 0 where
 run_goes : (e : Event) (at : ℕ) (c : Core) → Goes e at c (run_event e at c)
 run_goes e at c =
     let b : Core = begin_event (line_of e) at c in
-    let one : Stays (record c { moment = at }) b = begins (line_of e) at c in
-    let two : HasLine e b (with_line e b) = lined e b in
-    let three : Stays (with_line e b) (do_event e b) = keeps_do leaves report_leaves e b in
-    let four : Stays (do_event e b) (end_event (do_event e b)) = ends (do_event e b) in
+    let d : Core = do_event e b in
     record {
-      shape = four.shape ∙ three.shape ∙ two.shape ∙ one.shape;
-      limits = four.limits ∙ three.limits ∙ two.limits ∙ one.limits;
-      moment = four.moment ∙ three.moment ∙ two.moment ∙ one.moment;
-      last_line = four.last_line ∙ three.last_line ∙ two.last_line ∙ ap (λ n. unwrap_or (begun_line e) n) one.last_line;
+      shape = ended_same (λ x. x.members.shape) d refl refl ∙ ap (λ f. f.shape) (frame_done e at c);
+      limits = ended_same (λ x. x.limits) d refl refl ∙ ap (λ f. f.limits) (frame_done e at c);
+      moment = ended_same (λ x. x.moment) d refl refl ∙ ap (λ f. f.moment) (frame_done e at c);
+      last_line = ended_same (λ x. x.progress.last_line) d refl refl ∙ does_last e b ∙ ap (λ x. last_line_after e x) (begun_is e at c);
     }
 
 pub step_goes : (e : Event) (at : ℕ) (c : Core) → c.ended ≡ None → Goes e at c (step e at c)
-step_goes e at c going =
-    let goes : is_none c.ended ≡ true = ap is_none going in
-    rw goes (run_goes e at c)
+step_goes e at c going = subst (λ o. Goes e at c (change_if (is_none o) (run_event e at) c)) (sym going) (run_goes e at c)
+
+-- ---- a core that opens
+
+pub record Stays (old new : Core) : Type 0 where
+  pub shape : new.members.shape ≡ old.members.shape
+  pub limits : new.limits ≡ old.limits
+  pub moment : new.moment ≡ old.moment
+  pub last_line : new.progress.last_line ≡ old.progress.last_line
+
+pub opening_stays : (c : Core) → Stays c (end_event (note_down (begin_views c)))
+opening_stays c =
+    let d : Core = note_down (begin_views c) in
+    record {
+      shape = ended_same (λ x. x.members.shape) d refl refl ∙ ap (λ f. f.shape) (frame_opens c);
+      limits = ended_same (λ x. x.limits) d refl refl ∙ ap (λ f. f.limits) (frame_opens c);
+      moment = ended_same (λ x. x.moment) d refl refl ∙ ap (λ f. f.moment) (frame_opens c);
+      last_line = ended_same (λ x. x.progress.last_line) d refl refl ∙ strokes_last (λ line o is. cc is) d (strokes_of (opening_acts c));
+    }
+
+pub opening_line : (c : Core) → (end_event (note_down (begin_views c))).progress.event_line ≡ c.progress.event_line
+opening_line c = ended_same (λ x. x.progress.event_line) (note_down (begin_views c)) refl refl ∙ ap (λ f. f.event_line) (frame_opens c)

@@ -1,5 +1,6 @@
 pub mod AddressLemmas
 mod Examples
+pub mod FrameLemmas
 pub mod GoingLemmas
 pub mod KeepLemmas
 pub mod NotedLemmas

@@ -44,7 +44,7 @@ use Rattle.hs_events.specs.Alone.{AreAlone, face, is_round}
 use Rattle.hs_moments.proofs.AloneLemmas.{resend_alone}
 use Rattle.hs_moments.proofs.AloneStepLemmas.{proposes, sends_rounds, steps_go_on}
 use Rattle.hs_moments.proofs.MoveLemmas.{Moves, moves_both, moves_pool, moves_same}
-use Rattle.hs_moments.proofs.StepsKeepLemmas.{keeps_begin_line, keeps_if, keeps_propose_due, keeps_send_rounds, message_by, unless_by}
+use Rattle.hs_core_copies.proofs.WalkLemmas.{keeps_begin_line, keeps_if, keeps_propose_due, keeps_send_rounds, message_by, unless_by}
 
 -- ---- peers
 

@@ -31,7 +31,7 @@ use Rattle.hs_moments.proofs.AloneLemmas.{HandsOut, alone, front_alone, hands_ou
 use Rattle.hs_moments.proofs.AloneStepLemmas.{commits, steps_go_on}
 use Rattle.hs_moments.proofs.JobLemmas.{above_front, next_of}
 use Rattle.hs_moments.proofs.MoveLemmas.{Moves, alone_with, here, jobs_here, jobs_there, moves_same, there}
-use Rattle.hs_moments.proofs.StepsKeepLemmas.{keeps_behind, keeps_commit_next, keeps_commits, keeps_tell_bytes}
+use Rattle.hs_core_copies.proofs.WalkLemmas.{keeps_behind, keeps_commit_next, keeps_commits, keeps_tell_bytes}
 
 -- ---- the first job of a peer
 

@@ -27,7 +27,7 @@ use Rattle.hs_shard.specs.declared.effect.Sent.{Sent}
 use Rattle.hs_events.specs.Alone.{AreAlone, IsAlone, face, is_round, own, seal_of}
 use Rattle.hs_moments.proofs.AloneLemmas.{HandsOut, alone, hands_nothing, hands_out, is_alone, lead_by_alone, proposal_alone, propose_alone}
 use Rattle.hs_moments.proofs.MoveLemmas.{Goes, Moves, moves_at, moves_both, moves_pool, moves_same}
-use Rattle.hs_moments.proofs.StepsKeepLemmas.{StepLeaves}
+use Rattle.hs_core_copies.proofs.WalkLemmas.{StepLeaves}
 
 -- ---- leads
 
@@ -213,7 +213,7 @@ steps_go_on = record {
   operations = λ x c h. moves_same (face c) h;
   sessions = λ x c h. moves_same (face c) h;
   noted = λ of did told c h. moves_same (face c) h;
-  proposes = proposes;
+  proposes = λ s entry c plain. proposes s entry c plain.1;
   reads = reads;
   sends = sends;
   commits = commits;

@@ -1,18 +1,25 @@
 -- What an event adds to the journal comes behind what was there, at the event's moment.
-use Rattle.std.proofs.Common.{◌≡◌, ◌∙◌, ap, sym, subst, ℕ, ◌+◌, ◌==◌, ◌&&◌, not, Bool, true, false, List, [], ◌∷◌, ◌++◌, refl, length, nat_lt, is_none}
+use Rattle.std.proofs.Common.{◌≡◌, ◌∙◌, ap, sym, subst, ℕ, ◌+◌, Bool, true, false, List, [], ◌∷◌, ◌++◌, Option, refl, length, nat_lt, is_none}
 use Rattle.std.proofs.lemmas.List.{append-nil}
 use Rattle.std.proofs.lemmas.List.Elements.{All-append, All-cons, All-nil}
 use Rattle.std.specs.Prelude.{All}
-use Rattle.hs_events.proofs.KeepLemmas.{Leaves, ReportLeaves, keeps_do, with_line}
-use Rattle.hs_awaiting.specs.Words.{change_if}
-use Rattle.hs_core_words.specs.Changing.{change_pool}
+use Rattle.hs_anatomy.proofs.EventLemmas.{does_acts}
+use Rattle.hs_anatomy.proofs.StillLemmas.{kept_still, strokes_keep}
+use Rattle.hs_anatomy.proofs.StrokeLemmas.{strokes_of}
+use Rattle.hs_anatomy.specs.Kept.{Kept}
+use Rattle.hs_anatomy.specs.Strokes.{Adds, Answers, IsStill, Notes as Tells, Renews, Stroke, Strokes, TakesOut, Waits}
+use Rattle.hs_core_words.specs.Changing.{end_operation, note}
 use Rattle.hs_core_words.specs.declared.event.Event.{Event}
-use Rattle.hs_core_words.specs.declared.event.Event.TheVariants as event
 use Rattle.hs_core_words.specs.State.{Core}
 use Rattle.hs_core_words.specs.Step.{begin_event, do_event, end_event, line_of, step}
+use Rattle.hs_events.proofs.FrameLemmas.{begun_is, frame_done}
 use Rattle.hs_journal.specs.declared.entry.JournalEntry.{JournalEntry}
+use Rattle.hs_journal.specs.declared.entry.Who.{Who}
+use Rattle.hs_journal.specs.declared.entry.Who.TheVariants as who
+use Rattle.hs_model.specs.declared.deed.Deed.{Deed}
+use Rattle.hs_model.specs.declared.reply.Reply.{Reply}
 use Rattle.hs_moments.specs.Answers.{added, before_end, kept_entries}
-use Rattle.hs_post.specs.Pool.{is_empty, restart_numbers}
+use Rattle.hs_ops.specs.Answers.{deed_of}
 
 -- each of some entries has this moment
 abbrev pub AreAt : ℕ → List JournalEntry → Type 0
@@ -23,67 +30,31 @@ pub record Notes (old new : Core) : Type 0 where
   pub moment : new.moment ≡ old.moment
   pub entries : AreAt old.moment old.entries → AreAt new.moment new.entries
 
-alike : (c d : Core) → d.journal ≡ c.journal → d.moment ≡ c.moment → d.entries ≡ c.entries → Notes c d
-alike c d journal moment entries = record { journal = journal; moment = moment; entries = λ h. subst (λ m. AreAt m d.entries) (sym moment) (subst (λ es. AreAt c.moment es) (sym entries) h) }
+-- what an event tells is told at its moment
+told_at : {s : Core} {e : Option Event} (b : Core) → Strokes s e b → AreAt s.moment s.entries → AreAt b.moment b.entries
+told_at b xs h = strokes_keep (λ c. AreAt c.moment c.entries) (λ x y one at. by one at) b xs h
+  where
+    more : (of : Who) (did : Deed) (told : Reply) (c : Core) → AreAt c.moment c.entries → AreAt c.moment (note of did told c).entries
+    more of did told c at = All-append (λ (entry : JournalEntry). entry.moment ≡ c.moment) c.entries (record { who = of; moment = c.moment; deed = did; reply = told } ∷ []) at
+        (All-cons (λ (entry : JournalEntry). entry.moment ≡ c.moment) (record { who = of; moment = c.moment; deed = did; reply = told }) [] refl (All-nil (λ (entry : JournalEntry). entry.moment ≡ c.moment)))
 
-leaves : Leaves Notes
-leaves = record {
-  same = λ c. alike c c refl refl refl;
-  both = λ a b c f g. record { journal = g.journal ∙ f.journal; moment = g.moment ∙ f.moment; entries = λ h. g.entries (f.entries h) };
-  catalogue = λ shard x c. alike c _ refl refl refl;
-  viewed = λ shard x c. alike c _ refl refl refl;
-  status = λ peer x c. alike c _ refl refl refl;
-  tasks = λ peer x c. alike c _ refl refl refl;
-  rejoin = λ peer x c. alike c _ refl refl refl;
-  pool = λ x c. alike c _ refl refl refl;
-  operations = λ x c. alike c _ refl refl refl;
-  sessions = λ x c. alike c _ refl refl refl;
-  noted = λ of did told c. record {
-    journal = refl;
-    moment = refl;
-    entries = λ h. All-append (λ (entry : JournalEntry). entry.moment ≡ c.moment) c.entries (record { who = of; moment = c.moment; deed = did; reply = told } ∷ []) h
-        (All-cons (λ (entry : JournalEntry). entry.moment ≡ c.moment) (record { who = of; moment = c.moment; deed = did; reply = told }) [] refl (All-nil (λ (entry : JournalEntry). entry.moment ≡ c.moment)));
-  };
-  proposes = λ shard entry c. alike c _ refl refl refl;
-  takes = λ shard peer entry c. alike c _ refl refl refl;
-  hears = λ shard from view sealed c. alike c _ refl refl refl;
-  renews = λ shard c. alike c _ refl refl refl;
-  commits = λ shard c. alike c _ refl refl refl;
-}
+    by : {s : Core} {e : Option Event} {x : Core} {y : Core} → Stroke s e x y → AreAt x.moment x.entries → AreAt y.moment y.entries
+    by (IsStill still) at = subst (λ (k : Kept). AreAt k.moment k.entries) (sym (kept_still still)) at
+    by {x = x} (Tells {of = of} {did = did} {told = told} why) at = more of did told x at
+    by (Adds line o start is) at = at
+    by (Waits line w was there one) at = at
+    by {x = x} (Answers line w was told there one why) at = more (who.Line line) (deed_of x.sessions w.operation.op told) told (end_operation line x) at
+    by (TakesOut shard number entry next) at = at
+    by (Renews shard) at = at
 
-report_leaves : ReportLeaves Notes
-report_leaves = record {
-  seals = λ shard peer number c. alike c _ refl refl refl;
-  empties = λ shard peer c. alike c _ refl refl refl;
-  copies = λ shard peer number c. alike c _ refl refl refl;
-}
+-- ---- an event
 
-begins_so : (b : Bool) (at line : ℕ) (c : Core) → Notes (record c { moment = at }) (record (change_if b (change_pool restart_numbers) c) { moment = at; progress = record c.progress { event_line = line } })
-begins_so true at line c = alike (record c { moment = at }) _ refl refl refl
-begins_so false at line c = alike (record c { moment = at }) _ refl refl refl
-
-lined : (e : Event) (c : Core) → Notes c (with_line e c)
-lined (event.Line line o) c = alike c _ refl refl refl
-lined (event.Report peer d) c = alike c _ refl refl refl
-lined (event.Turn line peer) c = alike c _ refl refl refl
-lined (event.Deliver line number) c = alike c _ refl refl refl
-lined (event.Lose line number) c = alike c _ refl refl refl
-lined (event.Repeat line number) c = alike c _ refl refl refl
-lined (event.Nudge line peer) c = alike c _ refl refl refl
-lined (event.Fail line peer) c = alike c _ refl refl refl
-lined (event.Start line peer) c = alike c _ refl refl refl
-
--- up to the end of the event
-notes : (e : Event) (at : ℕ) (c : Core) → Notes (record c { moment = at }) (before_end e at c)
-notes e at c =
-    let b : Core = begin_event (line_of e) at c in
-    let one : Notes (record c { moment = at }) b = begins_so ((c.progress.event_line == 0 && not (line_of e == 0)) && is_empty c.pool) at _ c in
-    leaves.both (record c { moment = at }) b (do_event e b) one (leaves.both b (with_line e b) (do_event e b) (lined e b) (keeps_do leaves report_leaves e b))
-
+-- up to its end
 at_moment : (e : Event) (at : ℕ) (c : Core) → c.entries ≡ [] → AreAt at (before_end e at c).entries
 at_moment e at c none =
-    let n = notes e at c in
-    subst (λ m. AreAt m (before_end e at c).entries) n.moment (n.entries (subst (λ es. AreAt at es) (sym none) (All-nil (λ (entry : JournalEntry). entry.moment ≡ at))))
+    let b : Core = begin_event (line_of e) at c in
+    let begins : AreAt b.moment b.entries = subst (λ (x : Core). AreAt x.moment x.entries) (sym (begun_is e at c)) (subst (λ es. AreAt at es) (sym none) (All-nil (λ (entry : JournalEntry). entry.moment ≡ at))) in
+    subst (λ m. AreAt m (before_end e at c).entries) (ap (λ f. f.moment) (frame_done e at c)) (told_at (before_end e at c) (strokes_of (does_acts b e)) begins)
 
 -- ---- at its end
 
@@ -112,7 +83,7 @@ pub journal_after : (e : Event) (at : ℕ) (c : Core) → (step e at c).journal 
 journal_after e at c = go (is_none c.ended) refl
   where
     go : (b : Bool) → is_none c.ended ≡ b → (step e at c).journal ≡ c.journal ++ added e at c
-    go true h = rw h (ended_journal (before_end e at c) ∙ ap (λ j. j ++ kept_entries (before_end e at c)) (notes e at c).journal)
+    go true h = rw h (ended_journal (before_end e at c) ∙ ap (λ f. f.journal ++ kept_entries (before_end e at c)) (frame_done e at c))
     go false h = rw h (sym (append-nil c.journal))
 
 pub added_at : (e : Event) (at : ℕ) (c : Core) → c.entries ≡ [] → AreAt at (added e at c)

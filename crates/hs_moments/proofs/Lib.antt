@@ -16,5 +16,4 @@ pub mod OpeningLemmas
 mod SaneExamples
 pub mod SaneLemmas
 pub mod SealLemmas
-pub mod StepsKeepLemmas
 pub mod WorkLemmas

@@ -35,7 +35,7 @@ use Rattle.hs_moments.proofs.AloneReportLemmas.{AreSettled}
 use Rattle.hs_moments.proofs.AloneStepLemmas.{GoesOn, nowhere, proposes, steps_go_on}
 use Rattle.hs_moments.proofs.JobLemmas.{above_front, counts_on, grows, length_counted, settles}
 use Rattle.hs_moments.proofs.MoveLemmas.{Goes, Moves, moves_at, moves_both, moves_same}
-use Rattle.hs_moments.proofs.StepsKeepLemmas.{keeps_each, keeps_if}
+use Rattle.hs_core_copies.proofs.WalkLemmas.{keeps_each, keeps_if}
 use Rattle.hs_moments.proofs.WorkLemmas.{last_is}
 use Rattle.hs_post.specs.declared.message.Message.{Message}
 use Rattle.hs_replica.specs.Group.{Group, entries_above, last_number, new_group, renew, renewal, tell, whole_copy}

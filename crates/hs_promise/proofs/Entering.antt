@@ -91,16 +91,19 @@ with_more ending entry items = record (with_note ending entry) { course = item.G
 the_other_is_aside : is_aside script (with_note status.NoMemory (note 1 0)) 1 ≡ true
 the_other_is_aside = refl
 
--- also where it joined later, behind the first View
+-- also where it joined later, behind the first View or before it
 one_that_joined_was_aside : is_aside script (with_more status.Done (note 1 0) (item.Took 0 1 5 ∷ item.Good 1 9 ∷ [])) 1 ≡ true
 one_that_joined_was_aside = refl
+
+one_that_joined_at_once_was_aside : is_aside script (with_more status.Done (note 1 0) (item.Good 1 9 ∷ [])) 1 ≡ true
+one_that_joined_at_once_was_aside = refl
 
 -- not so the peer of the taken log, though its disk failed in opening too
 the_taken_is_not_aside : is_aside script (with_note status.NoMemory (note 0 0)) 0 ≡ false
 the_taken_is_not_aside = refl
 
--- nor one that was good as the core opened and failed in a turn of opening, which its note tells alike
-a_failure_in_a_turn_is_not_aside : is_aside script (with_more status.Done (note 1 0) (item.Good 1 2 ∷ item.Bad 1 4 ∷ item.Took 0 1 5 ∷ [])) 1 ≡ false
+-- nor one that was good as the core opened and failed in a turn of opening, which its note tells alike, but later
+a_failure_in_a_turn_is_not_aside : is_aside script (with_more status.Done (note 1 0) (item.Good 1 2 ∷ item.Bad 1 3 ∷ item.Took 0 1 5 ∷ [])) 1 ≡ false
 a_failure_in_a_turn_is_not_aside = refl
 
 -- nor one that failed behind a line

@@ -1,8 +1,8 @@
 -- The store at entry: which logs count of the disks as they were.
 use Rattle.std.specs.List.{list_any}
-use Rattle.std.specs.Prelude.{Bool, List, None, Option, [], drop, false, filter, if◌then◌else◌, length, not, take_while, true, ℕ, ◌&&◌, ◌++◌, ◌+◌, ◌==◌, ◌||◌, ◌∷◌, ◌≡◌}
+use Rattle.std.specs.Prelude.{Bool, List, None, Option, [], false, filter, if◌then◌else◌, length, not, true, ℕ, ◌&&◌, ◌++◌, ◌+◌, ◌==◌, ◌∷◌, ◌≡◌}
 use Rattle.hs_fold.specs.Runs.Opened.{opened}
-use Rattle.hs_fold.specs.Shards.Course.{begins, is_good_of}
+use Rattle.hs_fold.specs.Shards.Course.{begins, was_good}
 use Rattle.hs_fold.specs.Shards.Images.{Image}
 use Rattle.hs_fold.specs.Shards.Setting.{Numbered}
 use Rattle.hs_model.specs.Store.{Store}
@@ -14,27 +14,21 @@ use Rattle.hs_ports.specs.declared.disk.Side.{Side}
 use Rattle.hs_side.specs.Current.{list_in}
 use Rattle.hs_sound.specs.Stay.{AreSoundAlong}
 use Rattle.hs_promise.specs.Ending.{ending_of}
-use Rattle.hs_journal.specs.Notes.{is_first_noted}
+use Rattle.hs_journal.specs.declared.entry.JournalEntry.{JournalEntry}
+use Rattle.hs_journal.specs.Notes.{is_first_note}
 use Rattle.hs_events.specs.Taken.{or_blank, taken_items, taken_lists}
 use Rattle.hs_promise.specs.Run.{Ran, Script}
 use Rattle.hs_ports.specs.Objects.{NoneAhead, faults_at}
 
 -- ---- which disks count at entry
 
--- whether an item is no Took
-abbrev pub is_no_took : CourseItem → Bool
-is_no_took (item.Good peer moment) = true
-is_no_took (item.Bad peer moment) = true
-is_no_took (item.Begun line moment) = true
-is_no_took (item.Took shard number moment) = false
+-- whether an entry tells that a peer is down before any line had an event, where no Good of it stands at an earlier moment
+abbrev pub tells_aside : List CourseItem → ℕ → JournalEntry → Bool
+tells_aside course peer entry = is_first_note peer entry && not (was_good course entry.moment peer)
 
--- a peer was good as the core opened, or its log was taken: its Good stands before the Took of the first View, which comes behind a Good and a Took for each shard
-abbrev pub opens_good : ℕ → List CourseItem → ℕ → Bool
-opens_good shards course peer = begins shards course peer || list_any (is_good_of peer) (take_while is_no_took (drop (shards + shards) course))
-
--- opening set a peer aside: it was not; where there is no course, it is told to be down before any line had an event
+-- opening set a peer aside: it is told so, and its Good does not begin the course. A peer that was good as the core opened and failed in a turn of opening is told to be down too, but behind its Good
 abbrev pub is_aside : Script → Ran → ℕ → Bool
-is_aside S r peer = if length r.course == 0 then is_first_noted peer (r.journal ++ r.refused) else not (opens_good S.set.shape.shards r.course peer)
+is_aside S r peer = list_any (tells_aside r.course peer) (r.journal ++ r.refused) && not (begins S.set.shape.shards r.course peer)
 
 -- the logs of the disks as they were, from a peer on; the disk of a peer that was set aside counts as blank
 abbrev pub logs_from : Script → Ran → ℕ → List Standing → List (Option Numbered)

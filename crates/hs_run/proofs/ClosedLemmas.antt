@@ -42,7 +42,7 @@ use Rattle.hs_taking.specs.Shares.{Span as Taking}
 use Rattle.hs_taking.specs.Spared.{SparesDisks}
 use Rattle.hs_taking.specs.Viewed.{IsFirstOther as IsFirst, IsOnlyRead}
 use Rattle.hs_run.specs.Ended.{ran_at}
-use Rattle.hs_run.specs.Machine.{AreHanded, IsOfCluster}
+use Rattle.hs_run.specs.Machine.{AreHanded, IsOfCluster, LeavesShards}
 use Rattle.hs_run.specs.Served.{HasCauses, PrintsText, Served}
 use Rattle.hs_run.specs.Stopping.{of_cluster, status_of}
 use Rattle.hs_run.proofs.CaseLemmas.{if_any}
@@ -213,7 +213,7 @@ module _ (tells : Type 0) (set : Setting) (span : Taking) (fault : ClusterFault)
     (before : span.before ≡ old.moment) (now : span.now ≡ new.moment) (later : span.before ≤ span.now) (was : AreHanded old span.old) (is : AreHanded new span.new) (falls : NoneFalls span.old span.new) (since : tells → Since (stands_of span.new))
     (shape : IsShape set.shape) (disks : length span.old ≡ set.shape.shards * set.shape.copies) (handed : length old.disks ≡ length span.old) (same : length span.new ≡ length span.old) (handed_back : length new.disks ≡ length old.disks)
     (sink : old.sink_faults ≤ new.sink_faults) (source : old.source_faults ≤ new.source_faults) (taken : set.shape.copies ≡ 1 → LeavesAsTaken tells span)
-    (spares : SparesDisks tells set.shape span) (headed : (peer : ℕ) → peer < length span.old → KeepsItsHeader tells (own_header set.shape peer) span.before span.now (seen_at span.old peer) (seen_at span.new peer)) where
+    (shards : LeavesShards tells set.shape span) (spares : SparesDisks tells set.shape span) (headed : (peer : ℕ) → peer < length span.old → KeepsItsHeader tells (own_header set.shape peer) span.before span.now (seen_at span.old peer) (seen_at span.new peer)) where
   abbrev r : Ran
   r = ran_at (status_of (Err (of_cluster fault)) 0) 0 None old new
 
@@ -336,6 +336,15 @@ module _ (tells : Type 0) (set : Setting) (span : Taking) (fault : ClusterFault)
         new = is;
         since = λ told. subst (λ (d : List Standing). Since d) is.stands (since told);
         taken = taken one;
+      };
+      closed = λ none. record {
+        span = span;
+        before = before;
+        now = now;
+        old = was;
+        new = is;
+        since = λ told. subst (λ (d : List Standing). Since d) is.stands (since told);
+        taken = shards;
       };
       served = closed_served;
     },

@@ -183,6 +183,7 @@ module _ (tells : Type 0) (set : Setting) (span : Span) (running : Running) (did
             runs = m.1.runs;
             ended = m.1.ended;
             unopened = λ one none. absurd (some_none m.1.story none);
+            closed = λ none. absurd (some_none m.1.story none);
             served = whole_served m.0 m.1 handed_back cause ends;
           },
         )

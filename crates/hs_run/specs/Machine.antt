@@ -9,6 +9,7 @@ use Rattle.hs_events.specs.Found.{first_core}
 use Rattle.hs_events.specs.Reports.{failures}
 use Rattle.hs_events.specs.Taken.{peer_count}
 use Rattle.hs_events.specs.Whole.{open_whole}
+use Rattle.hs_limits.specs.declared.shape.Shape.{Shape}
 use Rattle.hs_limits.specs.Shape.{IsShape}
 use Rattle.hs_moments.specs.Moments.{Since}
 use Rattle.hs_ports.specs.Objects.{Objects}
@@ -19,6 +20,7 @@ use Rattle.hs_promise.specs.Promise.{AreOfScript}
 use Rattle.hs_promise.specs.Reports.{TellTheirLists}
 use Rattle.hs_promise.specs.Run.{DiskRose, Ran, Script}
 use Rattle.hs_promise.specs.Story.{Story, all_events, last_core}
+use Rattle.hs_taking.specs.Opening.{LeavesShard}
 use Rattle.hs_taking.specs.Shares.{Span as Taking}
 use Rattle.hs_run.specs.Served.{Served}
 
@@ -53,15 +55,23 @@ pub record HasItsEnd (S : Script) (r : Ran) (story : Story) : Type 0 where
   pub answered : r.ending ≡ status.WriteFault → story.lines ≡ [] → 0 < length r.journal
   pub unread : IsSome (first_core S.set story.found).ended → r.new.left ≡ r.old.left
 
--- with one copy a shard no core was opened: the calls on each disk left its list as it was, and its past
-pub record IsUnopened (tells : Type 0) (r : Ran) : Type 0 where
+-- no core was opened: this is so of the calls on its disks
+pub record IsUnopenedBy (tells : Type 0) (r : Ran) (P : Taking → Type 0) : Type 0 where
   pub span : Taking
   pub before : span.before ≡ r.old.moment
   pub now : span.now ≡ r.new.moment
   pub old : AreHanded r.old span.old
   pub new : AreHanded r.new span.new
   pub since : tells → Since r.new.disks
-  pub taken : LeavesAsTaken tells span
+  pub taken : P span
+
+-- with one copy a shard they left the list of each as it was, and its past
+abbrev pub IsUnopened : Type 0 → Ran → Type 0
+IsUnopened tells r = IsUnopenedBy tells r (LeavesAsTaken tells)
+
+-- with any number of copies they left of each shard only lists that a stop could leave at entry, or fronts of the one of greatest rank
+abbrev pub LeavesShards : Type 0 → Shape → Taking → Type 0
+LeavesShards tells shape span = (shard : ℕ) → shard < shape.shards → LeavesShard tells shape span shard
 
 -- the run is the machine's on the events that are due, and on no others; this its disks show; and this is had of the promise without a word of the plain store
 pub record IsOfCluster (tells : Type 0) (S : Script) (r : Ran) : Type 0 where
@@ -76,4 +86,5 @@ pub record IsOfCluster (tells : Type 0) (S : Script) (r : Ran) : Type 0 where
   pub runs : IfSome how (RunsOnDisks tells S r)
   pub ended : IfSome how (HasItsEnd S r)
   pub unopened : S.set.shape.copies ≡ 1 → how ≡ None → IsUnopened tells r
+  pub closed : how ≡ None → IsUnopenedBy tells r (LeavesShards tells S.set.shape)
   pub served : Served tells S r

@@ -10,7 +10,7 @@ use Rattle.std.proofs.Math.Nat.{le-min, min-le_left, min-le_right}
 use Rattle.std.specs.List.{AllByRecursion, list_any, range_with_len, slice_get}
 use Rattle.std.specs.Option.{option_map_or}
 use Rattle.std.specs.Prelude.{Contains, count_by, if◌then◌else◌, length}
-use Rattle.hs_settled.proofs.CourseLemmas.{InRange, any_left, find_in, no_good, not_opens, taken_begins}
+use Rattle.hs_settled.proofs.CourseLemmas.{InRange, any_left, find_in, never_good, no_good, not_begins, taken_begins}
 use Rattle.hs_settled.proofs.AddingLemmas.{GoesOn}
 use Rattle.hs_settled.proofs.CausesFirstLemmas.{IsFirst, members_first, room_first, told_first}
 use Rattle.hs_settled.proofs.CausesGoodLemmas.{last_opened, no_events, opened_good}
@@ -37,12 +37,13 @@ use Rattle.hs_limits.specs.declared.shape.Shape.{Shape}
 use Rattle.hs_limits.specs.Shape.{peer_of}
 use Rattle.hs_standing.specs.Script.{all_events}
 use Rattle.hs_members.specs.Members.{Members, home_of, is_good_status, status}
+use Rattle.hs_model.specs.declared.course.CourseItem.{CourseItem}
 use Rattle.hs_settled.proofs.NotedCountLemmas.{all_counts}
 use Rattle.hs_settled.proofs.NotedFirstLemmas.{first_notes}
 use Rattle.hs_ports.specs.Moments.{disk_at}
 use Rattle.hs_ports.specs.Objects.{RoseBy, faults_at}
 use Rattle.hs_promise.specs.Ending.{ending_of}
-use Rattle.hs_promise.specs.Entry.{is_aside, opens_good}
+use Rattle.hs_promise.specs.Entry.{is_aside, tells_aside}
 use Rattle.hs_promise.specs.Found.{IsLeftBehind, IsLostBefore, IsReadAs, IsSetAside, IsToldAside, told_failures}
 use Rattle.hs_promise.specs.Lost.{extra_note, lost_taken}
 use Rattle.hs_promise.specs.Machine.{Went, loss_count}
@@ -51,6 +52,27 @@ use Rattle.hs_promise.specs.Story.{Story, all_events as all_of, last_core}
 use Rattle.hs_side.specs.Current.{list_in}
 use Rattle.hs_settled.specs.Opened.{IsAsideAs}
 use Rattle.hs_told.specs.InTurn.{after_all, told_of}
+
+-- ---- whom opening set aside
+
+-- who is told to be down before any line, and is good at no time by the course, was set aside
+aside_told : (peer : ℕ) (course : List CourseItem) (es : List JournalEntry) → AllByRecursion (λ i. is_good_of peer i ≡ false) course → list_any (tells_aside course peer) es ≡ is_first_noted peer es
+aside_told peer course [] none = refl
+aside_told peer course (e ∷ es) none =
+    let same : tells_aside course peer e ≡ is_first_note peer e = ap (λ w. is_first_note peer e && not w) (never_good peer e.moment course none) ∙ and_yes (is_first_note peer e) in
+    let rest : list_any (tells_aside course peer) es ≡ is_first_noted peer es = aside_told peer course es none in
+    λ i. same i || rest i
+  where
+    and_yes : (b : Bool) → (b && true) ≡ b
+    and_yes true = refl
+    and_yes false = refl
+
+aside_noted_first : (shards peer : ℕ) (course : List CourseItem) (es : List JournalEntry) → AllByRecursion (λ i. is_good_of peer i ≡ false) course → is_first_noted peer es ≡ true
+    → (list_any (tells_aside course peer) es && not (begins shards course peer)) ≡ true
+aside_noted_first shards peer course es none told =
+    let noted : list_any (tells_aside course peer) es ≡ true = aside_told peer course es none ∙ told in
+    let not_first : begins shards course peer ≡ false = not_begins shards peer course none in
+    λ i. noted i && not (not_first i)
 
 -- ---- counts
 
@@ -377,15 +399,14 @@ module _ (S : Script) (r : Ran) (story : Story) (went : Went S r story) (peer : 
       first_all = part (λ (e : JournalEntry). IsFirst n e) (subst (λ (c : Core). AllByRecursion (λ (e : JournalEntry). IsFirst n e) (told_of c)) (sym (last_opened S r story went f over)) firsts)
 
       pub ended_aside : is_taken S.set.shape story.found.logs peer ≡ false → (is_aside S r peer ≡ true) ⊎ (note_count peer (r.journal ++ r.refused) ≡ 0)
-      ended_aside untaken = go (length r.course == 0) refl (is_first_noted peer told_all) refl
+      ended_aside untaken = go (is_first_noted peer told_all) refl
         where
-          gone : opens_good S.set.shape.shards r.course peer ≡ false
-          gone = not_opens S.set.shape.shards peer r.course (subst (λ course. AllByRecursion (λ i. is_good_of peer i ≡ false) course) (sym course_is) (no_good S.set.shape story.found r.old.moment peer untaken bad))
+          none : AllByRecursion (λ i. is_good_of peer i ≡ false) r.course
+          none = subst (λ course. AllByRecursion (λ i. is_good_of peer i ≡ false) course) (sym course_is) (no_good S.set.shape story.found r.old.moment peer untaken bad)
 
-          go : (e : Bool) → (length r.course == 0) ≡ e → (b : Bool) → is_first_noted peer told_all ≡ b → (is_aside S r peer ≡ true) ⊎ (note_count peer (r.journal ++ r.refused) ≡ 0)
-          go false some b t = inl (ap (λ c. if c then is_first_noted peer told_all else not (opens_good S.set.shape.shards r.course peer)) some ∙ ap (λ c. not c) gone)
-          go true empty false t = inr (not_noted n peer told_all first_all t)
-          go true empty true t = inl (ap (λ c. if c then is_first_noted peer told_all else not (opens_good S.set.shape.shards r.course peer)) empty ∙ t)
+          go : (b : Bool) → is_first_noted peer told_all ≡ b → (is_aside S r peer ≡ true) ⊎ (note_count peer (r.journal ++ r.refused) ≡ 0)
+          go true t = inl (aside_noted_first S.set.shape.shards peer r.course told_all none t)
+          go false t = inr (not_noted n peer told_all first_all t)
 
   -- ---- a core of one copy a shard has ended as it opened, where a peer is not good
 

@@ -1,11 +1,11 @@
 -- How a course begins: with whose Good, and where nobody's, that no peer was good.
-use Rattle.std.proofs.Common.{◌≡◌, ◌≢◌, ◌⊎◌, inl, inr, ◌∙◌, ap, sym, ℕ, zero, suc, ◌+◌, ◌-◌, ◌*◌, ◌<◌, ◌≤◌, ◌==◌, ◌||◌, ◌++◌, Bool, true, false, List, [], ◌∷◌, Option, Some, None, refl, arith, map}
+use Rattle.std.proofs.Common.{◌≡◌, ◌≢◌, ◌⊎◌, inl, inr, ◌∙◌, ap, sym, ℕ, zero, suc, ◌+◌, ◌-◌, ◌*◌, ◌<◌, ◌≤◌, ◌==◌, ◌&&◌, ◌||◌, ◌++◌, Bool, true, false, List, [], ◌∷◌, Option, Some, None, refl, arith, map, nat_lt}
 use Rattle.std.proofs.lemmas.Bool.{cases_eq, eq-eqb, eqb-true}
 use Rattle.std.proofs.lemmas.List.{append_assoc}
 use Rattle.std.proofs.lemmas.Nat.{div_below}
-use Rattle.std.specs.List.{AllByRecursion, list_any, prefix_len, range_with_len}
+use Rattle.std.specs.List.{AllByRecursion, list_any, range_with_len}
 use Rattle.std.specs.Option.{option_map_or}
-use Rattle.std.specs.Prelude.{drop, find, flat_map, if◌then◌else◌, length, take, take_while}
+use Rattle.std.specs.Prelude.{find, flat_map, if◌then◌else◌, length, take}
 use Rattle.hs_settled.proofs.CausesListLemmas.{any_none, both_nil, flat_all, flat_nil, not_both, range_all, range_each, some_is, take_all}
 use Rattle.hs_settled.proofs.ListLemmas.{take_back}
 use Rattle.hs_entry.specs.Entries.{rank_of}
@@ -13,7 +13,7 @@ use Rattle.hs_events.specs.Beginning.{first_items}
 use Rattle.hs_events.specs.Course.{change_item}
 use Rattle.hs_events.specs.Found.{Found, starts_good}
 use Rattle.hs_events.specs.Taken.{is_best, is_taken, taken_items, taken_list, taken_peer}
-use Rattle.hs_fold.specs.Shards.Course.{begins, is_good_of}
+use Rattle.hs_fold.specs.Shards.Course.{begins, is_good_below, is_good_of, was_good}
 use Rattle.hs_fold.specs.Shards.Setting.{Numbered}
 use Rattle.hs_limits.specs.declared.shape.Shape.{Shape}
 use Rattle.hs_limits.specs.Shape.{peer_of}
@@ -21,8 +21,7 @@ use Rattle.hs_quiet.proofs.FallenLemmas.{home_is}
 use Rattle.hs_members.specs.Members.{all_peers, home_of}
 use Rattle.hs_model.specs.declared.course.CourseItem.{CourseItem}
 use Rattle.hs_model.specs.declared.course.CourseItem.TheVariants as item
-use Rattle.hs_promise.specs.Entry.{is_no_took, opens_good}
-use Rattle.hs_settled.proofs.NotingLemmas.{all_append}
+use Rattle.hs_settled.proofs.NotingLemmas.{all_append, all_weaker}
 
 pub which_peer : (o : Option ℕ) → (o ≡ None) ⊎ ((p : ℕ) × (o ≡ Some p))
 which_peer None = inl refl
@@ -161,14 +160,12 @@ no_good shape found entry peer untaken bad =
 pub not_begins : (shards peer : ℕ) (course : List CourseItem) → AllByRecursion (IsNotOf peer) course → begins shards course peer ≡ false
 not_begins shards peer course all = any_none (is_good_of peer) _ (take_all (IsNotOf peer) (shards + shards) course all)
 
-drop_all : {X : Type 0} (P : X → Type 0) (n : ℕ) (xs : List X) → AllByRecursion P xs → AllByRecursion P (drop n xs)
-drop_all P zero xs all = all
-drop_all P (suc n) [] all = tt
-drop_all P (suc n) (x ∷ xs) all = drop_all P n xs all.1
+not_below : (peer moment : ℕ) (i : CourseItem) → IsNotOf peer i → is_good_below moment peer i ≡ false
+not_below peer moment (item.Good p m) none = ap (λ b. b && nat_lt m moment) none
+not_below peer moment (item.Bad p m) none = refl
+not_below peer moment (item.Begun line m) none = refl
+not_below peer moment (item.Took shard number m) none = refl
 
--- nor does it stand there
-pub not_opens : (shards peer : ℕ) (course : List CourseItem) → AllByRecursion (IsNotOf peer) course → opens_good shards course peer ≡ false
-not_opens shards peer course all =
-    ap (λ b. b || list_any (is_good_of peer) (take_while is_no_took (drop (shards + shards) course))) (not_begins shards peer course all)
-    ∙ any_none (is_good_of peer) (take_while is_no_took (drop (shards + shards) course))
-    (take_all (IsNotOf peer) (prefix_len is_no_took (drop (shards + shards) course)) (drop (shards + shards) course) (drop_all (IsNotOf peer) (shards + shards) course all))
+-- and it was not good at any time
+pub never_good : (peer moment : ℕ) (course : List CourseItem) → AllByRecursion (IsNotOf peer) course → was_good course moment peer ≡ false
+never_good peer moment course all = any_none (is_good_below moment peer) course (all_weaker (IsNotOf peer) (λ i. is_good_below moment peer i ≡ false) (not_below peer moment) course all)

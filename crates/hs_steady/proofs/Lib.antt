@@ -2,6 +2,7 @@ pub mod AlongLemmas
 pub mod FallenLemmas
 pub mod FaresLemmas
 pub mod LeavesLemmas
+pub mod LedLemmas
 pub mod ListedLemmas
 pub mod LostLemmas
 pub mod OpenedLemmas

@@ -1,14 +1,13 @@
 -- As a store opens each good peer's log has the list that its shard opens with, and nothing waits there.
-use Rattle.std.proofs.Common.{◌≡◌, ◌∙◌, ap, sym, subst, refl, inl, inr, ℕ, ◌+◌, ◌-◌, ◌*◌, ◌/◌, ◌<◌, ◌≤◌, not, Bool, true, false, if◌then◌else◌, List, [], ◌++◌, Option, Some, None, flat_map, length, arith}
+use Rattle.std.proofs.Common.{◌≡◌, ◌∙◌, ap, sym, subst, refl, inl, inr, ℕ, ◌+◌, ◌-◌, ◌*◌, ◌/◌, ◌<◌, ◌≤◌, not, Bool, true, false, if◌then◌else◌, List, [], ◌++◌, Some, None, flat_map, length, arith}
 use Rattle.std.proofs.Math.ListN.{get_or-map}
 use Rattle.std.proofs.Math.Nat.{div-mul-le_self, lt-div-mul-add}
 use Rattle.std.proofs.lemmas.Bool.{cases_lt}
 use Rattle.std.proofs.lemmas.List.{get_or-drop, get_or-replicate, get_or-take, get_or_past, take_at}
 use Rattle.std.proofs.lemmas.List.FromFn.{get_or-map-range_with_len, length-enumerate_from}
 use Rattle.std.specs.Prelude.{drop, slice_index, slice_index_or, take}
-use Rattle.hs_awaiting.specs.Words.{each}
-use Rattle.hs_cluster.proofs.PeerLogLemmas.{log_fine}
-use Rattle.hs_cluster.specs.PeerLogs.{HasPeerLog, KeepsPeers, log_of_peer}
+use Rattle.hs_cluster.specs.Opens.{OpensLists}
+use Rattle.hs_cluster.specs.PeerLogs.{log_of_peer}
 use Rattle.hs_cluster.specs.Sealed.{sealed_front}
 use Rattle.hs_copies.specs.Machine.{Copies}
 use Rattle.hs_core_copies.proofs.WalkLemmas.{keeps_each, keeps_if}
@@ -24,7 +23,7 @@ use Rattle.hs_entry.specs.Entries.{rank_of}
 use Rattle.hs_events.specs.Found.{Found, first_core, opened_list, opens_with, starts_good}
 use Rattle.hs_events.specs.Sane.{IsFromOne, appended_of}
 use Rattle.hs_events.specs.Taken.{peer_count}
-use Rattle.hs_events.specs.Whole.{counts, grown, open_whole, reach}
+use Rattle.hs_events.specs.Whole.{counts, floor, grown, open_whole, reach}
 use Rattle.hs_fold.specs.Shards.Setting.{Numbered, Setting}
 use Rattle.hs_journal.specs.declared.entry.Who.TheVariants as who
 use Rattle.hs_limits.specs.declared.limits.PeerStatus.TheVariants.{Down, Good, Joining}
@@ -34,11 +33,9 @@ use Rattle.hs_members.specs.Members.{IsPeer, IsShard, all_peers, home_of, is_goo
 use Rattle.hs_model.specs.declared.deed.Deed.TheVariants as deed
 use Rattle.hs_model.specs.declared.reply.Reply.TheVariants as reply
 use Rattle.hs_moments.proofs.WorkLemmas.{last_is}
-use Rattle.hs_peerlog.specs.Lists.{Keeping}
+use Rattle.hs_moments.specs.WholeMachine.{IsFrontOf, last_of}
 use Rattle.hs_replica.specs.declared.replica.Replica.{Replica}
 use Rattle.hs_replica.specs.Group.{Group, copy_of, entries_above, length_of, new_group, no_copy, whole_copy}
-use Rattle.hs_side.specs.Headers.{own_header}
-use Rattle.hs_taking.specs.Disks.{DiskSeen}
 use Rattle.hs_whole_copies.proofs.OpenLemmas.{opens_whole}
 use Rattle.hs_whole_copies.specs.Opening.{MayOpenWhole}
 use Rattle.hs_whole_copies.specs.Whole.{IsShardInStep, IsWholeInStep}
@@ -46,8 +43,7 @@ use Rattle.hs_steady.proofs.FaresLemmas.{leaves_end}
 use Rattle.hs_steady.proofs.LeavesLemmas.{Leaves, leaves_both, leaves_quiet, leaves_view, steps_leave}
 use Rattle.hs_steady.proofs.PeerLemmas.{FollowsOn, IsGood, IsOff, LogSeen, floor_good, log_good, log_seen, reach_good}
 use Rattle.hs_steady.proofs.QueueLemmas.{queue_none}
-use Rattle.hs_steady.proofs.SteadyLemmas.{floor_within, home_low, its_shard}
-use Rattle.hs_steady.specs.Begun.{HaveOpened}
+use Rattle.hs_steady.proofs.SteadyLemmas.{home_low, its_shard}
 
 -- views begin, and peers that are not good are told of
 leaves_opening : (q : ℕ) (c : Core) → Leaves q c (end_event (note_down (begin_views c)))
@@ -117,11 +113,13 @@ module _ (set : Setting) (found : Found) (may : MayOpenWhole set found) (on : (f
     from_one : IsFromOne (opened_list set found (home_of set.shape q))
     from_one = may.lists (home_of set.shape q) low_g
 
-    long : slice_index (opens_with set found).lengths (home_of set.shape q) ≡ length (opened_list set found (home_of set.shape q))
-    long =
-        get_or-map-range_with_len (λ shard. (rank_of (opened_list set found shard)).number) 0 set.shape.shards (home_of set.shape q) (home_of set.shape q) 0 low_g (omega arith)
-        ∙ ap (λ (xs : Numbered). (rank_of xs).number) from_one.counted ∙ last_is from_one.entries from_one.plain
+    last_long : last_of (opened_list set found (home_of set.shape q)) ≡ length (opened_list set found (home_of set.shape q))
+    last_long =
+        ap (λ (xs : Numbered). (rank_of xs).number) from_one.counted ∙ last_is from_one.entries from_one.plain
         ∙ sym (length-enumerate_from 1 from_one.entries) ∙ ap (λ (xs : Numbered). length xs) (sym from_one.counted)
+
+    long : slice_index (opens_with set found).lengths (home_of set.shape q) ≡ length (opened_list set found (home_of set.shape q))
+    long = get_or-map-range_with_len (λ shard. (rank_of (opened_list set found shard)).number) 0 set.shape.shards (home_of set.shape q) (home_of set.shape q) 0 low_g (omega arith) ∙ last_long
 
     sealed : sealed_of q (first_core set found) ≡ length (opened_list set found (home_of set.shape q))
     sealed =
@@ -148,12 +146,13 @@ module _ (set : Setting) (found : Found) (may : MayOpenWhole set found) (on : (f
     shard_q : IsShardInStep (home q (first_core set found)) (open_whole set found) (whole.0 (home q (first_core set found)))
     shard_q = its_shard (open_whole set found) whole.0 whole.1 q (subst (λ (s : Shape). IsPeer s q) (sym shape_is) low)
 
+    begins : IsFrontOf q (opened_list set found (home_of set.shape q)) (reach (open_whole set found) q)
+    begins = (list_is.0, reach_good (home q (first_core set found)) q (open_whole set found) (whole.0 (home q (first_core set found))) shard_q refl good ∙ list_is.1)
+
     front : sealed_front (open_whole set found) q ≡ opened_list set found (home_of set.shape q)
     front =
         let list : Numbered = opened_list set found (home_of set.shape q) in
-        ap (λ n. take n (reach (open_whole set found) q)) (floor_good (open_whole set found) q good ∙ sealed)
-        ∙ ap (take (length list)) (reach_good (home q (first_core set found)) q (open_whole set found) (whole.0 (home q (first_core set found))) shard_q refl good ∙ list_is.1)
-        ∙ take_at list list_is.0 (length list) refl
+        ap (λ n. take n (reach (open_whole set found) q)) (floor_good (open_whole set found) q good ∙ sealed) ∙ ap (take (length list)) begins.1 ∙ take_at list begins.0 (length list) refl
 
     log_is : log_of_peer (open_whole set found) q ≡ Some (opened_list set found (home_of set.shape q))
     log_is = log_good (open_whole set found) q good ∙ ap Some front
@@ -174,39 +173,26 @@ module _ (set : Setting) (found : Found) (may : MayOpenWhole set found) (on : (f
       go true e = e
       go false e = absurd (by (off e) (log_seen (open_whole set found) q))
 
-  module _ (logs : List (Option Keeping)) (disks : List DiskSeen) (h : HaveOpened set found logs disks) where
-    its_log : (q : ℕ) (starts : starts_good found q ≡ true) → HasPeerLog (first_core set found).members.shape logs disks q (opened_list set found (home_of set.shape q)) (appended_of q (first_core set found))
-    its_log q starts =
-        subst (λ w. HasPeerLog (first_core set found).members.shape logs disks q (opened_list set found (home_of set.shape q)) w) (sym (none_waits q starts))
-        (subst (λ s. HasPeerLog s logs disks q (opened_list set found (home_of set.shape q)) None) (sym shape_is) (h.logs_are q (good_low q starts) starts))
+  some_is : {X : Type 0} (x y : X) → Some x ≡ Some y → x ≡ y
+  some_is x y e = cc e
 
-    some_is : {X : Type 0} (x y : X) → Some x ≡ Some y → x ≡ y
-    some_is x y e = cc e
+  counted_good : (q : ℕ) → counts (open_whole set found) q ≡ true → starts_good found q ≡ true
+  counted_good q e = go (starts_good found q) e
+    where
+      go : (b : Bool) → not (not b) ≡ true → b ≡ true
+      go true i = refl
+      go false i = let wrong : false ≡ true = i in absurd (cc wrong)
 
-    counted_good : (q : ℕ) → counts (open_whole set found) q ≡ true → starts_good found q ≡ true
-    counted_good q e = go (starts_good found q) e
-      where
-        go : (b : Bool) → not (not b) ≡ true → b ≡ true
-        go true i = refl
-        go false i = let wrong : false ≡ true = i in absurd (cc wrong)
-
-    pub opens_kept : KeepsPeers (open_whole set found) logs disks found.opened
-    opens_kept = record {
-      listed = record {
-        each = λ q list low there.
-            let starts : starts_good found q ≡ true = told_good q list there in
-            let same : opened_list set found (home_of set.shape q) ≡ list = some_is (opened_list set found (home_of set.shape q)) list (sym (log_is q starts) ∙ there) in
-            subst (λ xs. HasPeerLog (first_core set found).members.shape logs disks q xs (appended_of q (first_core set found))) same (its_log q starts);
-      };
-      keeps = record {
-        called = h.called;
-        fine = λ q counted image stands.
-            let starts : starts_good found q ≡ true = counted_good q counted in
-            log_fine (open_whole set found) (first_core set found).members.shape logs disks q (opened_list set found (home_of set.shape q)) (appended_of q (first_core set found))
-            (floor_within (open_whole set found) whole.0 whole.1 q) (log_is q starts) (its_log q starts) image stands;
-      };
-      headed = λ q counted.
-          let starts : starts_good found q ≡ true = counted_good q counted in
-          let log = its_log q starts in
-          log.has.headed (own_header (first_core set found).members.shape q, log.generation) log.head;
-    }
+  pub opens_lists : OpensLists set found (open_whole set found)
+  opens_lists = record {
+    core = refl;
+    good = λ q list low there. told_good q list there;
+    listed = λ q list low there. some_is list (opened_list set found (home_of set.shape q)) (sym there ∙ log_is q (told_good q list there));
+    none = λ q list low there. none_waits q (told_good q list there);
+    counted = counted_good;
+    front = λ q counted. begins q (counted_good q counted);
+    long = λ q counted.
+        let starts : starts_good found q ≡ true = counted_good q counted in
+        let same : floor (open_whole set found) q ≡ last_of (opened_list set found (home_of set.shape q)) = floor_good (open_whole set found) q (good q starts) ∙ sealed q starts ∙ sym (last_long q starts) in
+        omega (arith, same);
+  }

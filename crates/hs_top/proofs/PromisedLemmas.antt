@@ -81,8 +81,8 @@ module _ (laws : Laws) (tells : Type 0) (S : Script) (r : Ran) (names : GivesAdd
     cause = laws.cause S r cluster.how cluster.went (λ several. absurd (several one)) cluster.served.causes.read cluster.served.causes.write cluster.served.within
 
     good_by : (how : Option Story) → WentAs S r how → IsGoodUntold S r
-    good_by None went past m peer during low untold none = absurd (never_past r went past)
-    good_by (Some story) went past m peer during low untold none =
+    good_by None went past m peer during low untold none was = absurd (never_past r went past)
+    good_by (Some story) went past m peer during low untold none was =
         let start : starts_good story.found peer ≡ true = laws.start_good S r story one went past peer low in
         let count : S.set.shape.shards * S.set.shape.copies ≡ S.set.shape.shards = ap (λ n. S.set.shape.shards * n) one ∙ omega arith in
         let within : peer < S.set.shape.shards * S.set.shape.copies = low in

@@ -44,7 +44,7 @@ returns-in-Err-clause-ran g c =
     (record { stands = handed_stands f h (λ disk. refl) c.open.new.disks; counts = handed_counts f h (λ disk. refl) c.open.new.disks })
     c.open.ensures.counted (λ told. since_of f c.open.new.disks (g.met.D.Disk.since told)) c.requires.shape
     (length-map c.args.disks.now f ∙ c.requires.count) (seen_count h f c.args.disks.now) (length-map c.open.new.disks f ∙ c.open.ensures.count ∙ sym (length-map c.args.disks.now f))
-    (handed_count h c.args.disks.now c.open.new.disks c.open.ensures.count) (omega arith) (omega arith) c.in-Err.ensures.unopened c.in-Err.ensures.spares
+    (handed_count h c.args.disks.now c.open.new.disks c.open.ensures.count) (omega arith) (omega arith) c.in-Err.ensures.unopened c.in-Err.ensures.shards c.in-Err.ensures.spares
     (λ peer low. c.in-Err.ensures.headed peer (subst (λ n. peer < n) (length-map c.args.disks.now f) low)))
 
 -- ---- its script was run

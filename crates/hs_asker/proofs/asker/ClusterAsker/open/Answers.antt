@@ -33,7 +33,7 @@ returns-in-Err-clause-closed g c =
     subst (λ (ds : List g.row.D.Denot). (commands : ℕ → Option Command) × IsOfCluster g.D.Disk.tells (record { set = g.H.Handed.entry.set; commands = commands })
     (silent_run (status_of (Err (of_cluster c.in-Err.fault)) 0) 0 [] [] [] (silent g.H.Handed.entry.moment g.H.Handed.entry.disks) (silent c.open-opened.new.watch (map f ds)))) (sym back)
     (closed_run g.D.Disk.tells g.H.Handed.entry set span c.in-Err.fault entry c.in-Err.ensures.closed c.open-opened.ensures.ticks c.open-opened.ensures.counted (λ told. since_of f left (g.met.D.Disk.since told)) c.requires.shape
-    (length-map slice f ∙ ap length all ∙ c.requires.count) (length-map left f ∙ same ∙ sym (length-map slice f)) c.in-Err.ensures.unopened c.in-Err.ensures.spares
+    (length-map slice f ∙ ap length all ∙ c.requires.count) (length-map left f ∙ same ∙ sym (length-map slice f)) c.in-Err.ensures.unopened c.in-Err.ensures.shards c.in-Err.ensures.spares
     (λ peer low. c.in-Err.ensures.headed peer (subst (λ n. peer < n) (length-map slice f) low)))
 
 pub returns-in-Err-clause-only : goal.returns-in-Err-clause-only
