@@ -1,18 +1,14 @@
 -- What an asker that was asked one operation after another shows of its lines.
-use Rattle.std.proofs.Common.{◌≡◌, ◌∙◌, inl, inr, ap, sym, subst, refl, ℕ, ◌-◌, ◌==◌, Bool, true, false, List, [], ◌∷◌, ◌++◌, Option, Some, None, if◌then◌else◌}
+use Rattle.std.proofs.Common.{◌≡◌, ◌∙◌, inl, inr, ap, sym, subst, refl, ℕ, List, [], ◌∷◌, ◌++◌, Option, Some, None}
 use Rattle.std.proofs.lemmas.Bool.{cases_eq}
 use Rattle.std.specs.List.{AllByRecursion}
-use Rattle.std.specs.Prelude.{IsSome}
 use Rattle.hs_asking.proofs.EventLemmas.{FindsTheSame}
 use Rattle.hs_asking.specs.Asked.{HasAsked, HasBegun, IsOfAnother}
 use Rattle.hs_asking.specs.Shown.{Shown}
-use Rattle.hs_asker.specs.Lines.{command_at, ops_of}
 use Rattle.hs_journal.specs.Events.{client_op}
 use Rattle.hs_journal.specs.Order.{session_of}
 use Rattle.hs_journal.specs.declared.entry.JournalEntry.{JournalEntry}
 use Rattle.hs_journal.specs.declared.entry.Who.TheVariants as who
-use Rattle.hs_model.specs.declared.command.Command.{Command}
-use Rattle.hs_model.specs.declared.command.Command.TheVariants as command
 use Rattle.hs_model.specs.declared.op.Op.{Op}
 use Rattle.hs_model.specs.declared.op.Op.TheVariants as op
 use Rattle.hs_model.specs.declared.reply.Reply.{Reply}
@@ -104,32 +100,3 @@ quiet_works session (o ∷ ops) w = (quiet_work session o w.0, quiet_works sessi
 pub quiet_ops : (session : List ℕ) (ops : List Op) → IsOpenAndWork session ops → AllByRecursion IsQuiet ops
 quiet_ops session [] w = tt
 quiet_ops session (o ∷ ops) w = (subst (λ (x : Op). IsQuiet x) (sym w.0) tt, quiet_works session ops w.1)
-
--- ---- lines and what they ask for
-
-none_some : (o : Op) → None ≡ Some o → ⊥
-none_some o e = cc e
-
--- what is so of all operations of some lines is so of that of the first, and of those behind it
-one_line : (P : Op → Type 0) (c : Command) (cs : List Command) → AllByRecursion P (ops_of (c ∷ cs)) → ((p : Op) → client_op (Some c) ≡ Some p → P p) × AllByRecursion P (ops_of cs)
-one_line P (command.Client p) cs all = ((λ q is. let same : p ≡ q = cc is in subst P same all.0), all.1)
-one_line P command.Settle cs all = ((λ q is. absurd (none_some q is)), all)
-one_line P (command.Turn peer) cs all = ((λ q is. absurd (none_some q is)), all)
-one_line P (command.Nudge peer) cs all = ((λ q is. absurd (none_some q is)), all)
-one_line P (command.Deliver message) cs all = ((λ q is. absurd (none_some q is)), all)
-one_line P (command.Lose message) cs all = ((λ q is. absurd (none_some q is)), all)
-one_line P (command.Repeat message) cs all = ((λ q is. absurd (none_some q is)), all)
-one_line P (command.Fail peer) cs all = ((λ q is. absurd (none_some q is)), all)
-one_line P (command.Start peer) cs all = ((λ q is. absurd (none_some q is)), all)
-one_line P (command.Reclaim peer) cs all = ((λ q is. absurd (none_some q is)), all)
-
--- and of that of each
-pub each_line : (P : Op → Type 0) (said : List Command) → AllByRecursion P (ops_of said) → (n : ℕ) (o : Op) → client_op (command_at said n) ≡ Some o → P o
-each_line P [] all n o asks = absurd (none_some o asks)
-each_line P (c ∷ cs) all n o asks =
-    let h = one_line P c cs all in
-    go h.0 (λ k. each_line P cs h.1 (n - 1) o k) (n == 1) asks
-  where
-    go : ((p : Op) → client_op (Some c) ≡ Some p → P p) → (client_op (command_at cs (n - 1)) ≡ Some o → P o) → (b : Bool) → client_op (if b then Some c else command_at cs (n - 1)) ≡ Some o → P o
-    go here later true is = here o is
-    go here later false is = later is

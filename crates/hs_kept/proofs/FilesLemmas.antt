@@ -45,7 +45,7 @@ use Rattle.hs_tree.specs.Storing.{HasStored, our_session}
 use Rattle.hs_tree.specs.Trees.{IsStored}
 use Rattle.hs_tree.specs.declared.fault.TreeFault.{TreeFault}
 use Rattle.hs_tree.specs.declared.fault.TreeFault.TheVariants as fault
-use Rattle.hs_kept.proofs.KeyLemmas.{none_asked}
+use Rattle.hs_kept.proofs.NobodyLemmas.{none_asked}
 use Rattle.hs_kept.proofs.LawLemmas.{Laws}
 use Rattle.hs_kept.proofs.StatusLemmas.{closed_tells_none, core_tells_none, cut_not, done_not, is_no_tree, is_read_fault, is_refused, is_too_long, never, never_done, never_written, told_by_status}
 use Rattle.hs_kept.proofs.RunLemmas.{AnswersFrom, answers_from, lists_of, told_run}

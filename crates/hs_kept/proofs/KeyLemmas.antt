@@ -31,6 +31,7 @@ use Rattle.hs_model.specs.declared.op.Op.TheVariants as op
 use Rattle.hs_model.specs.declared.reply.Reply.{Reply}
 use Rattle.hs_model.specs.declared.reply.Reply.TheVariants as reply
 use Rattle.hs_model.specs.declared.store.StoredBlock.{StoredBlock}
+use Rattle.hs_kept.proofs.NobodyLemmas.{none_asked}
 
 -- ---- a key, and blocks
 
@@ -140,10 +141,6 @@ module _ (key : List ℕ) (a : Address) where
       goes_then key a s (happen s one) (happen_all (happen s one) ones) here (goes_happenings limits (happen s one) ones here.distinct all.1)
 
 -- ---- entries of a journal
-
-pub none_asked : (name : List ℕ → Address) (s : Store) (told : Reply) → line_event name s None told ≡ None
-none_asked name s (reply.Busy line) = refl
-none_asked name s other = refl
 
 module _ (commands : ℕ → Option Command) (name : List ℕ → Address) (limits : Limits) where
   -- the store behind an entry and some more

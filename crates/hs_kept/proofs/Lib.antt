@@ -7,10 +7,12 @@ pub mod KeyLemmas
 pub mod LawLemmas
 pub mod LineLemmas
 pub mod MomentLemmas
+pub mod NobodyLemmas
 pub mod PendingLemmas
 pub mod QuietLemmas
 pub mod RunLemmas
 pub mod RunningLemmas
+pub mod SaidLemmas
 pub mod SourceLemmas
 pub mod StatusLemmas
 pub mod StoppedLemmas

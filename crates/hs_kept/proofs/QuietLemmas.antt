@@ -34,8 +34,9 @@ use Rattle.hs_model.specs.declared.op.Op.{Op}
 use Rattle.hs_model.specs.declared.op.Op.TheVariants as op
 use Rattle.hs_model.specs.declared.reply.Reply.{Reply}
 use Rattle.hs_model.specs.declared.reply.Reply.TheVariants as reply
-use Rattle.hs_kept.proofs.KeyLemmas.{behind_event, none_asked}
+use Rattle.hs_kept.proofs.KeyLemmas.{behind_event}
 use Rattle.hs_kept.proofs.LineLemmas.{HasLine}
+use Rattle.hs_kept.proofs.NobodyLemmas.{none_asked}
 
 -- ---- operations
 

@@ -30,7 +30,7 @@ use Rattle.hs_side.specs.Current.{list_in}
 use Rattle.hs_standing.specs.Held.{GivesAddresses}
 use Rattle.hs_tree.specs.Fetching.{IsFetching, IsReading}
 use Rattle.hs_tree.specs.Storing.{our_session}
-use Rattle.hs_kept.proofs.AskedLemmas.{each_line}
+use Rattle.hs_kept.proofs.SaidLemmas.{each_line}
 use Rattle.hs_kept.proofs.CopiedLemmas.{sound_same}
 use Rattle.hs_kept.proofs.FilesLemmas.{asks_plainly}
 use Rattle.hs_kept.proofs.LawLemmas.{Laws}

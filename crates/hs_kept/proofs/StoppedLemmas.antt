@@ -57,12 +57,13 @@ use Rattle.hs_tree.specs.Growing.{HasPlanted, IsOpenAndWork, IsPlanted, IsStorin
 use Rattle.hs_tree.specs.Storing.{AsksRoot, our_session}
 use Rattle.hs_tree.specs.Trees.{height, stored_cut}
 use Rattle.hs_tree.specs.declared.grow.Node.{Node}
-use Rattle.hs_kept.proofs.AskedLemmas.{ClientsAre, IsOurs, done_clients, each_line, finds_same, our_works, quiet_ops, some_line}
+use Rattle.hs_kept.proofs.AskedLemmas.{ClientsAre, IsOurs, done_clients, finds_same, our_works, quiet_ops, some_line}
 use Rattle.hs_kept.proofs.FilesLemmas.{asks_plainly, began_is, here, lists_are}
 use Rattle.hs_kept.proofs.LawLemmas.{Laws}
 use Rattle.hs_kept.proofs.LineLemmas.{HasLine, has_left}
 use Rattle.hs_kept.proofs.MomentLemmas.{MomentLaws, asked_then}
 use Rattle.hs_kept.proofs.QuietLemmas.{IsQuiet}
+use Rattle.hs_kept.proofs.SaidLemmas.{each_line}
 use Rattle.hs_kept.proofs.RunLemmas.{sound_at, store_is, told_run}
 use Rattle.hs_kept.proofs.WholeKeyLemmas.{IsEarlier, IsKeptWhole, IsPoised, quiet_after, quiet_stop, whole_after, whole_stop}
 use Rattle.hs_kept.specs.Kept.{AsksPlainly, IsSoundStart, disk_lists, set_of, store_before, store_behind}

@@ -29,7 +29,7 @@ use Rattle.hs_promise.specs.Entry.{entry_logs, entry_store, is_aside, logs_from}
 use Rattle.hs_promise.specs.Run.{Ran, Script}
 use Rattle.hs_side.specs.Current.{list_in}
 use Rattle.hs_tree.proofs.LawLemmas.{stored_stays}
-use Rattle.hs_kept.proofs.KeyLemmas.{none_asked}
+use Rattle.hs_kept.proofs.NobodyLemmas.{none_asked}
 use Rattle.hs_kept.proofs.LawLemmas.{Laws}
 use Rattle.hs_kept.specs.Survives.{NoneDrops, OpensSound, SurvivesRun}
 
