@@ -179,7 +179,7 @@ module _ (tells : Type 0) (e : AtEntry) (shape : IsShape e.set.shape) (count : l
       subst (λ (r : Result Reply CoreFault). StopsSo new more r) (sym is)
       (stops_within tells e going.found going.first going.opening shape count (command_at (asking ++ more)) said going.lines old new (command.Client o) fault left (command_zero (asking ++ more)) (asked_front asking more) going.done going.shows asks)
   asked_stops new more result (Undriven mid fault asks drives is) left = subst (λ (r : Result Reply CoreFault). StopsSo new more r) (sym is) (driven_stops mid new more fault asks drives left)
-  asked_stops new more result (Unheard mid asks drives is) left = subst (λ (r : Result Reply CoreFault). StopsSo new more r) (sym is) (wanting_behind mid new more asks drives left)
+  asked_stops new more result (Unheard mid asks drives told is answer may) left = subst (λ (r : Result Reply CoreFault). StopsSo new more r) (sym is) (wanting_behind mid new more asks drives left)
   asked_stops new more result (Heard mid asks drives told is answer may) left = subst (λ (r : Result Reply CoreFault). StopsSo new more r) (sym is) tt
 
   -- ---- whether it was answered or not
@@ -200,7 +200,7 @@ module _ (tells : Type 0) (e : AtEntry) (shape : IsShape e.set.shape) (count : l
   grows new more result (Unasked same is) = ([], ap (λ (p : Point). p.cluster.core.journal) same ∙ sym (append-nil old.cluster.core.journal))
   grows new more result (Broken fault asks is) = adds tells e going.found going.first going.opening said going.lines old new (command.Client o) (Err fault) going.done asks
   grows new more result (Undriven mid fault asks drives is) = driven_grows mid new more fault asks drives
-  grows new more result (Unheard mid asks drives is) = let p = past mid new more asks drives in (p.more, p.adds)
+  grows new more result (Unheard mid asks drives told is answer may) = let p = past mid new more asks drives in (p.more, p.adds)
   grows new more result (Heard mid asks drives told is answer may) = let p = past mid new more asks drives in (p.more, p.adds)
 
   pub has_begun : (new : Point) (more : List Command) (result : Result Reply CoreFault) (was now : Option CoreFault) → AllByRecursion IsDriving more → DoesAsk tells e.set.name o old new more result
@@ -238,7 +238,7 @@ module _ (tells : Type 0) (e : AtEntry) (shape : IsShape e.set.shape) (count : l
   heard new more result told ok (Unasked same is) = absurd (err_ok core.NoMemory told (sym is ∙ ok))
   heard new more result told ok (Broken fault asks is) = absurd (err_ok (core_of fault) told (sym is ∙ ok))
   heard new more result told ok (Undriven mid fault asks drives is) = absurd (err_ok (core_of fault) told (sym is ∙ ok))
-  heard new more result told ok (Unheard mid asks drives is) = absurd (err_ok core.NoMemory told (sym is ∙ ok))
+  heard new more result told ok (Unheard mid asks drives reply is answer may) = absurd (err_ok core.NoMemory told (sym is ∙ ok))
   heard new more result told ok (Heard mid asks drives reply is answer may) =
       subst (λ (r : Reply). IsHeard new more r) (ok_is reply told (sym is ∙ ok)) (record { mid = mid; asks = asks; drives = drives; answer = answer; may = may })
 

@@ -11,7 +11,7 @@ use Rattle.hs_model.specs.declared.command.Command.TheVariants as command
 use Rattle.hs_model.specs.declared.op.Op.{Op}
 use Rattle.hs_model.specs.declared.reply.Reply.{Reply}
 use Rattle.hs_run.specs.Between.{Point}
-use Rattle.hs_asker.specs.Answer.{HasAnswer}
+use Rattle.hs_asker.specs.Answer.{HasAnswer, IsAnswered}
 use Rattle.hs_asker.specs.Asked.{Asks, Broken, Unasked, Undriven, core_of}
 use Rattle.hs_asker.specs.Driven.{DrivesOn}
 use Rattle.hs_asker.specs.Going.{RunsAlone}
@@ -35,12 +35,12 @@ module _ (tells : Type 0) (name : List ℕ → Address) (o : Op) where
 
     pub asks_heard : DrivesOn tells name mid new then is (Ok tt) → (entries : List JournalEntry) (first : ℕ) (kind : Kind) (result : Result Reply CoreFault)
         → entries ≡ drop (length old.cluster.core.journal) new.cluster.core.journal → first ≡ old.line + 1 → kind ≡ kind_of o
-        → IfOk result (λ told. HasAnswer entries first told) → IfOk result (λ told. kind_may kind told ≡ true) → IfErr result (λ fault. fault ≡ core.NoMemory) → Asks tells name o old new was is result
-    asks_heard d entries first kind result are number kind_is answer may only = record {
+        → IsAnswered entries first kind → IfOk result (λ told. HasAnswer entries first told) → IfOk result (λ told. kind_may kind told ≡ true) → IfErr result (λ fault. fault ≡ core.NoMemory) → Asks tells name o old new was is result
+    asks_heard d entries first kind result are number kind_is found answer may only = record {
       more = d.said;
       driving = d.driving;
       said = d.more ∙ ap (λ (x : List Command). x ++ d.said) same;
-      does = heard_or tells name o old mid new d.said entries first kind result asks (whole_drives tells name mid new d.said d.driven) are number kind_is answer may only;
+      does = heard_or tells name o old mid new d.said entries first kind result asks (whole_drives tells name mid new d.said d.driven) are number kind_is found answer may only;
     }
 
     pub journal_asked : DrivesOn tells name mid new then is (Ok tt) → length old.cluster.core.journal ≤ length new.cluster.core.journal
