@@ -7,16 +7,15 @@ use Rattle.hs_anatomy.proofs.StrokeLemmas.{strokes_of}
 use Rattle.hs_anatomy.specs.Acts.{Aside, Copies, Empties, Hears, Loses, Repeats, Reports, Resends, Seals, Starts, Takes, Views}
 use Rattle.hs_anatomy.specs.Strokes.{Adds, Answers, BeginsAgain, Besides, Follows, IsStill, Leaves, Notes, Proposes, Reads, Renews, SendsAgain, Still, Stroke, TakesOut, TurnsGood, Waits}
 use Rattle.hs_awaiting.specs.Words.{change_with, each}
-use Rattle.hs_core_words.specs.Asking.{send_round}
 use Rattle.hs_core_words.specs.Changing.{add_entry_tasks, change_group, change_pool, change_rejoin, post}
 use Rattle.hs_core_words.specs.declared.event.Event.{Event}
 use Rattle.hs_core_words.specs.declared.event.Event.TheVariants as event
 use Rattle.hs_core_words.specs.Effects.{round_messages}
 use Rattle.hs_core_words.specs.Joining.{begin_joining, follow_lead, joining_peers}
 use Rattle.hs_core_words.specs.Looking.{catalogue_of, group_of, home, lead_of, sealed_of, shape_of}
-use Rattle.hs_core_words.specs.Operating.{add_read, propose_entry}
+use Rattle.hs_core_words.specs.Operating.{add_read}
 use Rattle.hs_core_words.specs.State.{Core}
-use Rattle.hs_core_words.specs.Step.{begin_event, do_event, end_event, line_of, step}
+use Rattle.hs_core_words.specs.Step.{begin_event, do_event, line_of, step}
 use Rattle.hs_desk.specs.declared.done.Done.{Done}
 use Rattle.hs_entry.specs.declared.entry.Entry.{Entry}
 use Rattle.hs_events.proofs.FrameLemmas.{Frame, begun_is, ended_same, frame_does, step_by}
@@ -76,17 +75,17 @@ commit_seals g peer = go (nat_lt g.front (commit_front g)) refl (slice_get g.wai
 -- ---- of each stroke
 
 -- of each peer as many are sealed
-record SealsStay (a b : Core) : Type 0 where
-  each : (at peer : ℕ) (none : Group) → sealed_in (slice_index_or b.groups at none) peer ≡ sealed_in (slice_index_or a.groups at none) peer
+abbrev SealsStay : Core → Core → Type 0
+SealsStay a b = (at peer : ℕ) (none : Group) → sealed_in (slice_index_or b.groups at none) peer ≡ sealed_in (slice_index_or a.groups at none) peer
 
 same_groups : (a b : Core) → b.groups ≡ a.groups → SealsStay a b
-same_groups a b e = record { each = λ at peer none. ap (λ gs. sealed_in (slice_index_or gs at none) peer) e }
+same_groups a b e = λ at peer none. ap (λ gs. sealed_in (slice_index_or gs at none) peer) e
 
 stay_both : (a b c : Core) → SealsStay a b → SealsStay b c → SealsStay a c
-stay_both a b c f g = record { each = λ at peer none. g.each at peer none ∙ f.each at peer none }
+stay_both a b c f g = λ at peer none. g at peer none ∙ f at peer none
 
 stay_by : (shard : ℕ) (f : Group → Group) (c : Core) → ((peer : ℕ) → sealed_in (f (group_of shard c)) peer ≡ sealed_in (group_of shard c) peer) → SealsStay c (change_group shard f c)
-stay_by shard f c h = record { each = λ at peer none. set_same (λ g. sealed_in g peer) c.groups shard at (f (group_of shard c)) (new_group (shape_of c) shard 0 0 []) none (h peer) }
+stay_by shard f c h = λ at peer none. set_same (λ (g : Group). sealed_in g peer) c.groups shard at (f (group_of shard c)) (new_group (shape_of c) shard 0 0 []) none (h peer)
 
 groups_with : {B : Type 0} (o : Option B) (f : B → Core → Core) (c : Core) → ((y : B) (x : Core) → (f y x).groups ≡ x.groups) → (change_with o f c).groups ≡ c.groups
 groups_with None f c h = refl
@@ -144,8 +143,8 @@ module _ {s : Core} {e : Option Event} (quiet : (peer : ℕ) (d : Done) → e �
 -- ---- of an event
 
 pub seals_stay : (core : Core) (e : Event) (at peer : ℕ) → report_in e ≡ None → sealed_of peer (step e at core) ≡ sealed_of peer core
-seals_stay core e at peer none = step_by (λ c. sealed_of peer c ≡ sealed_of peer core) e at core refl
-    (ended_same (λ c. sealed_of peer c) d refl refl ∙ does ∙ ap (λ c. sealed_of peer c) (begun_is e at core))
+seals_stay core e at peer none = step_by (λ (c : Core). sealed_of peer c ≡ sealed_of peer core) e at core refl
+    (ended_same (λ (c : Core). sealed_of peer c) d refl refl ∙ does ∙ ap (λ (c : Core). sealed_of peer c) (begun_is e at core))
   where
     b : Core
     b = begin_event (line_of e) at core
@@ -154,15 +153,15 @@ seals_stay core e at peer none = step_by (λ c. sealed_of peer c ≡ sealed_of p
     d = do_event e b
 
     quiet : (p : ℕ) (x : Done) → Some e ≡ Some (event.Report p x) → ⊥
-    quiet p x is = some_is_not (sym (reported is) ∙ none)
+    quiet p x is = some_is_not (p, x) (sym (reported is) ∙ none)
       where
         reported : Some e ≡ Some (event.Report p x) → report_in e ≡ Some (p, x)
         reported is = let same : e ≡ event.Report p x = cc is in ap report_in same
 
-        some_is_not : Some (p, x) ≡ None → ⊥
-        some_is_not e = grind arith
+        some_is_not : (y : ℕ × Done) → Some y ≡ None → ⊥
+        some_is_not y is = cc is
 
     does : sealed_of peer d ≡ sealed_of peer b
     does =
-        (strokes_keep (λ c. SealsStay b c) (λ x y one h. stay_both b x y h (seals_stroke quiet x y one)) d (strokes_of (does_acts b e)) (same_groups b b refl)).each (home peer d) peer (new_group (shape_of d) (home peer d) 0 0 [])
+        (strokes_keep (λ (c : Core). SealsStay b c) (λ x y one h. stay_both b x y h (seals_stroke quiet x y one)) d (strokes_of (does_acts b e)) (same_groups b b refl)) (home peer d) peer (new_group (shape_of d) (home peer d) 0 0 [])
         ∙ ap (λ (f : Frame). sealed_in (slice_index_or b.groups (home_of f.shape peer) (new_group f.shape (home_of f.shape peer) 0 0 [])) peer) (frame_does e b)
