@@ -1,5 +1,5 @@
 -- One more operation, and its answer.
-use Rattle.std.proofs.Common.{◌≡◌, ℕ, ◌+◌, ◌<◌, ◌≤◌, List, [], ◌∷◌, ◌++◌, zero, suc, IsSome, Some, refl, sym, ap, ◌∙◌, append-nil, arith, length, Result, Ok, Err, IfOk, OnErr}
+use Rattle.std.proofs.Common.{◌≡◌, ℕ, ◌+◌, ◌<◌, ◌≤◌, List, [], ◌∷◌, ◌++◌, zero, suc, IsSome, Some, refl, sym, ap, subst, ◌∙◌, append-nil, arith, length, Result, Ok, Err, IfOk, OnErr}
 use Rattle.std.specs.List.{AllByRecursion}
 use Rattle.hs_asking.specs.Asked.{HasAsked, HasBegun, IsOfAnother}
 use Rattle.hs_asking.specs.Telling.{MayBeTold}
@@ -65,7 +65,7 @@ command-within [] n some = absurd (cc some)
 command-within (p ∷ ops) zero some = omega arith
 command-within (p ∷ ops) (suc n) some = let low = command-within ops n some in omega (arith, low)
 
-pub begins : (r : Result Reply CoreFault) (a b : Asking) (o : Op) → b.asked ≡ a.asked ++ o ∷ [] → IfOk r (λ x. b.told ≡ a.told ++ x ∷ []) → OnErr r (b.told ≡ a.told) → length a.told ≡ length a.asked → HasBegun (shows_of a) (shows_of b) o
+begins : (r : Result Reply CoreFault) (a b : Asking) (o : Op) → b.asked ≡ a.asked ++ o ∷ [] → IfOk r (λ x. b.told ≡ a.told ++ x ∷ []) → OnErr r (b.told ≡ a.told) → length a.told ≡ length a.asked → HasBegun (shows_of a) (shows_of b) o
 begins r a b o asked told kept same = record {
   line = length a.asked;
   more = (more_of r told kept).0;
@@ -79,3 +79,7 @@ begins r a b o asked told kept same = record {
     more_of : (r : Result Reply CoreFault) → IfOk r (λ x. b.told ≡ a.told ++ x ∷ []) → OnErr r (b.told ≡ a.told) → (more : List JournalEntry) × (entries_from 0 b.told ≡ entries_from 0 a.told ++ more)
     more_of (Ok x) told kept = (entry_of (0 + length a.told) x ∷ [], ap (λ z. entries_from 0 z) told ∙ entries-last 0 a.told x)
     more_of (Err e) told kept = ([], ap (λ z. entries_from 0 z) kept ∙ sym (append-nil (entries_from 0 a.told)))
+
+-- the same, of what an asker tells before
+pub begun_so : (r : Result Reply CoreFault) (v a b : Asking) (o : Op) → a ≡ v → b.asked ≡ a.asked ++ o ∷ [] → IfOk r (λ x. b.told ≡ a.told ++ x ∷ []) → OnErr r (b.told ≡ a.told) → length a.told ≡ length a.asked → HasBegun (shows_of v) (shows_of b) o
+begun_so r v a b o e asked told kept same = subst (λ z. HasBegun (shows_of z) (shows_of b) o) e (begins r a b o asked told kept same)
