@@ -1,18 +1,17 @@
--- Of a run that is shown whole, over sound disks, whose core goes on behind its opening: all that is asked of it follows, so that it runs soundly.
-use Rattle.std.proofs.Common.{◌≡◌, ◌∙◌, ap, sym, subst, inl, inr, ℕ, zero, suc, ◌+◌, ◌<◌, ◌≤◌, ◌++◌, Bool, true, false, List, [], ◌∷◌, Option, Some, None, refl, map, arith}
+-- Of a run on disks that tell, over sound ones, whose core goes on behind its opening: all that is asked of it follows, so that it runs soundly.
+use Rattle.std.proofs.Common.{◌≡◌, ◌∙◌, ap, sym, subst, inl, inr, ℕ, zero, suc, ◌+◌, ◌*◌, ◌<◌, ◌≤◌, ◌++◌, Bool, true, false, List, [], ◌∷◌, Option, Some, None, refl, map, arith}
 use Rattle.std.proofs.lemmas.Bool.{cases_lt}
 use Rattle.std.proofs.lemmas.List.{get_or_past}
 use Rattle.std.specs.List.{AllByRecursion, list_any, range_with_len}
 use Rattle.std.specs.Prelude.{drop, if◌then◌else◌, slice_index_or, take, unwrap_or}
 use Rattle.hs_standing.specs.Walks.{HasRecordRoom}
 use Rattle.hs_standing.specs.Answered.{KeepsRecordRoom, TellTheirBlocks, judging_of}
+use Rattle.hs_clauses.proofs.AtEntryLemmas.{OpensAtEntry, opens_at_entry}
 use Rattle.hs_clauses.proofs.LineLemmas.{flat_same, joined, opening_due}
-use Rattle.hs_clauses.proofs.ListLemmas.{lists_are}
 use Rattle.hs_clauses.proofs.ReadLemmas.{BringsAll, applied_all, from_empty, read_brings, read_from_one}
 use Rattle.hs_clauses.proofs.RoomLemmas.{keeps_room}
 use Rattle.hs_clauses.specs.Asked.{lined, start_of}
-use Rattle.hs_clauses.specs.Shown.{IsShown, OnDisks, OpensAtEntry, RunsSoundly, RunsTold}
-use Rattle.hs_cluster.proofs.OpeningMoves.{all_good}
+use Rattle.hs_clauses.specs.Shown.{HasItsDisks, IsShown, IsShownRun, IsToldAs, IsToldRun, OnDisks, RunsSoundly, RunsTold, ShownAs, ToldAs}
 use Rattle.hs_cluster.specs.Kept.{AreTold}
 use Rattle.hs_core_words.specs.State.{Core}
 use Rattle.hs_desk.specs.declared.fault.CoreFault.{CoreFault}
@@ -26,9 +25,7 @@ use Rattle.hs_entry.specs.Entries.{rank_of}
 use Rattle.hs_fold.specs.Opened.{chosen, chosen_each, outranks}
 use Rattle.hs_fold.specs.Runs.Opened.{catalogues, store_of}
 use Rattle.hs_fold.specs.Shards.Setting.{Numbered}
-use Rattle.hs_standing.specs.Held.{GivesAddresses, KeepsAddresses}
-use Rattle.hs_journal.specs.Events.{client_op}
-use Rattle.hs_limits.specs.Shape.{IsShape}
+use Rattle.hs_standing.specs.Held.{KeepsAddresses}
 use Rattle.hs_members.specs.Members.{peers_of}
 use Rattle.hs_ports.specs.declared.disk.Side.{Side}
 use Rattle.hs_ports.specs.Moments.{disk_at}
@@ -124,28 +121,31 @@ module _ (S : Script) (r : Ran) (story : Story) (went : Went S r story) (read : 
       go true = each_chosen P none S.set.shape.shards S.set.shape.copies (or_blank story.found.logs) (blanks_all P none story.found.logs log) shard
       go false = none
 
-  -- where it opens with the lists at entry it begins there
-  pub begins_at_entry : IsShape S.set.shape → GivesAddresses S.set.name → client_op (S.commands 0) ≡ None → IsSoundAtEntry S r → OpensAtEntry S r story → RunBegins (start_of S r) story.found
-  begins_at_entry shape names nobody sound at_entry = record {
+  -- where its core goes on it begins over the lists at entry
+  pub begins_at_entry : HasItsDisks S r → IsSoundAtEntry S r → (first_core S.set story.found).ended ≡ None → RunBegins (start_of S r) story.found
+  begins_at_entry on sound going = record {
     soundly = record {
-      shape = shape;
-      names = names;
+      shape = on.shape;
+      names = on.names;
       many = went.found.goods;
       lists = λ shard low. opens_read (λ list. IsFromOne list) from_empty disk_from_one shard;
       sound = subst (λ (ls : List Numbered). AreSoundAlong S.set ls) at_entry sound;
       addressed = each_range KeepsAddresses (opened_catalogue S.set story.found) 0 S.set.shape.shards
-          (λ g low high. applied_all S.set.name names (opened_list S.set story.found g) (empty_catalogue S.set.shape g) (brings g) (record { blocks = tt; roots = tt }));
+          (λ g low high. applied_all S.set.name on.names (opened_list S.set story.found g) (empty_catalogue S.set.shape g) (brings g) (record { blocks = tt; roots = tt }));
     };
     entry = ap (λ (ls : List Numbered). store_of (catalogues S.set 0 ls)) at_entry;
-    nobody = nobody;
+    nobody = on.nobody;
   }
     where
-      brings : (g : ℕ) → BringsAll S.set.name names (opened_list S.set story.found g)
-      brings g = opens_read (λ list. BringsAll S.set.name names list) tt (λ seen. go seen (list_in seen) refl) g
+      at_entry : OpensAtEntry S r story
+      at_entry = opens_at_entry S r story went read on.shape on.disks going
+
+      brings : (g : ℕ) → BringsAll S.set.name on.names (opened_list S.set story.found g)
+      brings g = opens_read (λ list. BringsAll S.set.name on.names list) tt (λ seen. go seen (list_in seen) refl) g
         where
-          go : (seen : Side → List ℕ) (o : Option Numbered) → list_in seen ≡ o → BringsAll S.set.name names (unwrap_or o [])
+          go : (seen : Side → List ℕ) (o : Option Numbered) → list_in seen ≡ o → BringsAll S.set.name on.names (unwrap_or o [])
           go seen None e = tt
-          go seen (Some list) e = read_brings S.set.name names seen list e
+          go seen (Some list) e = read_brings S.set.name on.names seen list e
 
 -- ---- it follows
 
@@ -193,25 +193,36 @@ module _ (memory : FoldsInMemory) (reads : ReadsBlocks) (S : Script) (r : Ran) (
   pub soundly_of : RunsSoundly S r story
   soundly_of = record { went = run.went; begins = run.begins; rooms = run.rooms; blocks = blocks }
 
-module _ (memory : FoldsInMemory) (reads : ReadsBlocks) (S : Script) (r : Ran) (story : Story) (on : OnDisks S r) (sound : IsSoundAtEntry S r) (shown : IsShown S r story) (going : (first_core S.set story.found).ended ≡ None) where
-  pub good : (p : ℕ) → p < S.set.shape.shards → starts_good story.found p ≡ true
-  good p low = all_good S.set story.found on.one shown.went.found.goods going p low
+-- so does a run on disks that tell, whose core goes on
+pub runs_soundly : FoldsInMemory → ReadsBlocks → (S : Script) (r : Ran) (story : Story) → HasItsDisks S r → IsToldAs S r story → IsSoundAtEntry S r → (first_core S.set story.found).ended ≡ None → RunsSoundly S r story
+runs_soundly memory reads S r story on told sound going =
+    let begins : RunBegins (start_of S r) story.found = begins_at_entry S r story told.went told.read on sound going in
+    soundly_of memory reads S r story (record { went = told.went; begins = begins; rooms = told.rooms; told = told.told begins.soundly })
 
-  begins : RunBegins (start_of S r) story.found
-  begins = begins_at_entry S r story shown.went shown.read on.shape on.names on.nobody sound (lists_are S r story shown.went on.one shown.read on.disks good)
+-- ---- with one copy of each shard
 
-  few : HasRecordRoom (first_core S.set story.found)
-  few = first_room S.set story.found memory begins.soundly.sound
+pub its_disks : (S : Script) (r : Ran) → OnDisks S r → HasItsDisks S r
+its_disks S r on = record {
+  shape = on.shape;
+  names = on.names;
+  nobody = on.nobody;
+  disks = on.disks ∙ (let all = ap (λ n. S.set.shape.shards * n) on.one in omega (arith, all));
+}
 
-  pub asked_of : IsAskedOf S r story
-  asked_of = record {
-    on = on;
-    sound = sound;
-    read = shown.read;
-    going = going;
-    few = few;
-    runs = soundly_of memory reads S r story (record { went = shown.went; begins = begins; rooms = shown.rooms; told = shown.told });
-  }
+pub told_as : (S : Script) (r : Ran) (story : Story) → IsShown S r story → IsToldAs S r story
+told_as S r story shown = record { went = shown.went; read = shown.read; rooms = shown.rooms; told = λ soundly going. shown.told going }
+
+pub told_run : (S : Script) (r : Ran) → IsShownRun S r → IsToldRun S r
+told_run S r run = record { on = its_disks S r run.on; how = run.how; told = by_how run.how run.shown }
+  where
+    by_how : (how : Option Story) → ShownAs S r how → ToldAs S r how
+    by_how None unopened = unopened.never
+    by_how (Some story) shown = told_as S r story shown
+
+pub asked_of : FoldsInMemory → ReadsBlocks → (S : Script) (r : Ran) (story : Story) → OnDisks S r → IsSoundAtEntry S r → IsShown S r story → (first_core S.set story.found).ended ≡ None → IsAskedOf S r story
+asked_of memory reads S r story on sound shown going =
+    let runs : RunsSoundly S r story = runs_soundly memory reads S r story (its_disks S r on) (told_as S r story shown) sound going in
+    record { on = on; sound = sound; read = shown.read; going = going; few = first_room S.set story.found memory runs.begins.soundly.sound; runs = runs }
 
 -- ---- it opens at the store at entry
 

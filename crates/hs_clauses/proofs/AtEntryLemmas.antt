@@ -7,7 +7,6 @@ use Rattle.hs_clauses.proofs.AsideLemmas.{set_aside, some_good, taken_at, taken_
 use Rattle.hs_clauses.proofs.EntryLemmas.{entry_count, entry_log}
 use Rattle.hs_clauses.proofs.GreatestLemmas.{FoundFirst, counts_still, within}
 use Rattle.hs_clauses.proofs.ReadLemmas.{from_empty, read_from_one}
-use Rattle.hs_clauses.specs.Shown.{OpensAtEntry}
 use Rattle.hs_events.specs.Found.{first_core, opened_list, starts_good}
 use Rattle.hs_events.specs.Sane.{IsFromOne}
 use Rattle.hs_events.specs.Taken.{is_best, is_taken, or_blank, peer_count, taken_list, taken_lists}
@@ -24,6 +23,10 @@ use Rattle.hs_promise.specs.Story.{Story}
 use Rattle.hs_side.specs.Current.{list_in}
 use Rattle.hs_standing.specs.Lists.{Lists, whole_from}
 use Rattle.hs_standing.specs.Opening.{opened_lists}
+
+-- the lists with which a run opens are those at entry
+abbrev pub OpensAtEntry : Script → Ran → Story → Type 0
+OpensAtEntry S r story = taken_lists S.set.shape (entry_logs S r) ≡ whole_from (opened_lists S.set story.found) 0 S.set.shape.shards
 
 -- ---- lists by shard
 

@@ -25,6 +25,7 @@ use Rattle.hs_fold.specs.Good.{IsBegun, good_from, taken_from}
 use Rattle.hs_fold.specs.Shards.Setting.{Numbered}
 use Rattle.hs_standing.proofs.AllLemmas.{all_append}
 use Rattle.hs_journal.specs.declared.entry.JournalEntry.{JournalEntry}
+use Rattle.hs_journal.specs.Events.{client_op}
 use Rattle.hs_journal.specs.Order.{IsOrdered}
 use Rattle.hs_model.specs.declared.course.CourseItem.{CourseItem}
 use Rattle.hs_model.specs.Store.{Store}
@@ -63,7 +64,7 @@ lines_none S r line core [] fault ended h = refl
 lines_none S r line core (es ∷ []) fault ended h = absurd (none_some fault (sym h.going ∙ ended))
 lines_none S r line core (es ∷ next ∷ rest) fault ended h = absurd (none_some fault (sym h.0.going ∙ ended))
 
-module _ (S : Script) (r : Ran) (story : Story) (on : OnDisks S r) (went : Went S r story) (fault : CoreFault) (ended : (first_core S.set story.found).ended ≡ Some fault) where
+module _ (S : Script) (r : Ran) (story : Story) (went : Went S r story) (fault : CoreFault) (ended : (first_core S.set story.found).ended ≡ Some fault) where
   abbrev by : Judging
   by = record { commands = S.commands; name = S.set.name; limits = S.set.limits }
 
@@ -92,9 +93,9 @@ module _ (S : Script) (r : Ran) (story : Story) (on : OnDisks S r) (went : Went 
   pub journal_notes : AllByRecursion IsNote r.journal
   journal_notes = subst (λ (es : List JournalEntry). AllByRecursion IsNote es) (sym journal_is) (opens_noted S.set.shape S.set.limits (opens_with S.set story.found) story.found.opened).journal
 
-  module _ (laws : ComingLaws) where
+  module _ (nobody : client_op (S.commands 0) ≡ None) (laws : ComingLaws) where
     turn : IsInTurn S.commands (first_core S.set story.found)
-    turn = laws.opens S.commands S.set.shape S.set.limits (opens_with S.set story.found) story.found.opened on.nobody
+    turn = laws.opens S.commands S.set.shape S.set.limits (opens_with S.set story.found) story.found.opened nobody
 
     pub ended_answers : (entry : Store) → Answers S entry r.journal
     ended_answers entry = record {
@@ -119,7 +120,7 @@ module _ (S : Script) (r : Ran) (story : Story) (on : OnDisks S r) (went : Went 
 
   -- ---- a stop
 
-  module _ (shown : IsShown S r story) (may : MayStop S r) where
+  module _ (on : OnDisks S r) (shown : IsShown S r story) (may : MayStop S r) where
     kept : (p : ℕ) → p < S.set.shape.shards → KeepsList r p
     kept p low = shown.ended (subst (λ (o : Option CoreFault). IsSome o) (sym ended) refl) may.none.called p low
 

@@ -3,10 +3,9 @@ use Rattle.std.proofs.Common.{◌≡◌, ◌∙◌, ◌⊎◌, inl, inr, ap, sym
 use Rattle.std.proofs.lemmas.Bool.{cases_eq, cases_lt}
 use Rattle.std.proofs.lemmas.Bool.Decides.{nat_tests}
 use Rattle.std.proofs.lemmas.List.{get_or-drop, get_or-map, get_or-take, length-drop, length-map, length-take-le}
-use Rattle.std.proofs.Math.Nat.{mul-le-mul_right, suc-mul}
 use Rattle.std.specs.List.{enumerate_from, range_with_len}
 use Rattle.std.specs.Option.{option_map_or}
-use Rattle.std.specs.Prelude.{find, slice_index_or, unwrap_or}
+use Rattle.std.specs.Prelude.{find, if◌then◌else◌, slice_index_or, unwrap_or}
 use Rattle.hs_cluster.proofs.TakenLemmas.{above_or_least, chosen_at as chosen_of_shard, none_above, none_below}
 use Rattle.hs_entry.specs.declared.rank.Rank.{Rank}
 use Rattle.hs_entry.specs.Entries.{rank_of}
@@ -17,6 +16,7 @@ use Rattle.hs_fold.specs.Shards.Setting.{Numbered}
 use Rattle.hs_limits.specs.declared.shape.Shape.{Shape}
 use Rattle.hs_limits.specs.Shape.{peer_of}
 use Rattle.hs_moments.proofs.WorkLemmas.{last_is}
+use Rattle.hs_taking.proofs.ChoiceLemmas.{shard_within}
 use Rattle.hs_taking.proofs.ChosenLemmas.{chosen_at}
 use Rattle.hs_taking.proofs.GreatestLemmas.{not_above_back}
 
@@ -40,7 +40,7 @@ find_there p a (suc c) j low high is = go (p a) refl (λ next. find_there p (a +
     go : (b : Bool) → p a ≡ b → (a + 1 ≤ j → FoundFirst p (a + 1) c) → FoundFirst p a (suc c)
     go true e rest = record {
       at = a;
-      is = ap (λ b. cond b (Some a) (find p (range_with_len (a + 1) c))) e;
+      is = ap (λ b. if b then Some a else find p (range_with_len (a + 1) c)) e;
       from = omega arith;
       to = omega arith;
       passes = e;
@@ -53,7 +53,7 @@ find_there p a (suc c) j low high is = go (p a) refl (λ next. find_there p (a +
         let t = later.to in
         record {
           at = later.at;
-          is = ap (λ b. cond b (Some a) (find p (range_with_len (a + 1) c))) e ∙ later.is;
+          is = ap (λ b. if b then Some a else find p (range_with_len (a + 1) c)) e ∙ later.is;
           from = omega (arith, f);
           to = omega (arith, t);
           passes = later.passes;
@@ -115,10 +115,7 @@ module _ (shape : Shape) (logs : List (Option Numbered)) (count : length logs �
   list_by peer = unwrap_or (slice_index_or logs peer None) []
 
   pub within : start + shape.copies ≤ shape.shards * shape.copies
-  within =
-      let up : (suc shard) * shape.copies ≤ shape.shards * shape.copies = mul-le-mul_right (omega (arith, low)) in
-      let one : (suc shard) * shape.copies ≡ shape.copies + shard * shape.copies = suc-mul shard shape.copies in
-      omega (arith, up, one)
+  within = let w = shard_within shape shard low in omega (arith, w)
 
   -- the lists of its peers, of all lists
   abbrev pub part : List Numbered → List Numbered

@@ -1,6 +1,8 @@
 pub mod AlongLemmas
 pub mod AnswerLemmas
+pub mod AsideLemmas
 pub mod AskedLemmas
+pub mod AtEntryLemmas
 pub mod AtomLemmas
 pub mod AwaitLemmas
 pub mod BlockLemmas
@@ -15,6 +17,7 @@ pub mod FirstLemmas
 pub mod FitLemmas
 pub mod FoundLemmas
 pub mod FrontLemmas
+pub mod GreatestLemmas
 pub mod HomeLemmas
 pub mod HomeWalk
 pub mod InStepReadLemmas
@@ -34,6 +37,7 @@ pub mod ReadsListLemmas
 pub mod ReadyLemmas
 pub mod RestLemmas
 pub mod RoomLemmas
+pub mod RowLemmas
 pub mod RunLemmas
 pub mod ScriptLemmas
 pub mod SealedLemmas
@@ -44,5 +48,7 @@ pub mod StopLemmas
 pub mod StoredFrontLemmas
 pub mod TakenLemmas
 pub mod TellLemmas
+pub mod ToldDownLemmas
+pub mod ToldRunLemmas
 pub mod UnopenedLemmas
 pub mod WholeReadLemmas

@@ -1,27 +1,22 @@
--- The lists with which a run opens whose peers are all good are those of its disks at entry.
-use Rattle.std.proofs.Common.{◌≡◌, ◌∙◌, inl, inr, ap, sym, refl, ℕ, zero, suc, ◌+◌, ◌*◌, ◌<◌, ◌==◌, ◌||◌, ◌++◌, not, Bool, true, false, List, [], ◌∷◌, Option, Some, None, length, take, drop, arith, if◌then◌else◌, true≢false}
-use Rattle.std.proofs.lemmas.Bool.{ne_eqb}
+-- With one copy of each shard: who has a log counts at entry, and the list with which its shard opens is that of its disk.
+use Rattle.std.proofs.Common.{◌≡◌, ◌∙◌, inl, inr, ap, sym, refl, ℕ, ◌*◌, ◌<◌, ◌&&◌, ◌||◌, ◌++◌, not, Bool, true, false, List, [], Option, Some, None, length, arith, if◌then◌else◌}
 use Rattle.std.specs.List.{list_any}
-use Rattle.std.specs.Prelude.{IsSome, slice_index_or, take_while, unwrap_or}
-use Rattle.hs_clauses.proofs.EntryLemmas.{entry_lists, entry_log}
+use Rattle.std.specs.Prelude.{IsSome, slice_index_or, unwrap_or}
 use Rattle.hs_clauses.proofs.FoundLemmas.{many, opens_begins}
 use Rattle.hs_clauses.proofs.TakenLemmas.{list_is, peers_are}
 use Rattle.hs_events.specs.Course.{items_of}
 use Rattle.hs_events.specs.Found.{first_core, opened_list, starts_good}
-use Rattle.hs_events.specs.Taken.{peer_count, taken_list, taken_lists}
-use Rattle.hs_fold.specs.Shards.Course.{begins, is_good_of}
+use Rattle.hs_events.specs.Taken.{peer_count, taken_list}
+use Rattle.hs_fold.specs.Shards.Course.{begins}
 use Rattle.hs_fold.specs.Shards.Setting.{Numbered}
-use Rattle.hs_journal.specs.Notes.{is_first_noted}
 use Rattle.hs_model.specs.declared.course.CourseItem.{CourseItem}
 use Rattle.hs_ports.specs.Moments.{disk_at}
-use Rattle.hs_promise.specs.Entry.{entry_logs, is_aside, tells_aside}
+use Rattle.hs_promise.specs.Entry.{is_aside, tells_aside}
 use Rattle.hs_promise.specs.Found.{IsReadAs}
 use Rattle.hs_promise.specs.Machine.{Went}
 use Rattle.hs_promise.specs.Run.{Ran, Script}
 use Rattle.hs_promise.specs.Story.{Story, all_events}
 use Rattle.hs_side.specs.Current.{list_in}
-use Rattle.hs_standing.specs.Opening.{opened_lists}
-use Rattle.hs_standing.specs.Lists.{whole_from}
 
 -- ---- small words
 
@@ -68,12 +63,3 @@ module _ (S : Script) (r : Ran) (story : Story) (went : Went S r story) (one : S
           ∙ ap (λ b. if b || false then taken_list S.set.shape story.found.logs p else []) (good p low)
           ∙ list_is S.set.shape story.found.logs one (many S r story went.found one) p low
           ∙ ap (λ (o : Option Numbered). unwrap_or o []) (there.1 ∙ sym (log_is p low there.0 there.1))
-
-      entry_is : (p : ℕ) → p < S.set.shape.shards → unwrap_or (slice_index_or (entry_logs S r) p None) [] ≡ opened_list S.set story.found p
-      entry_is p low =
-          ap (λ (o : Option Numbered). unwrap_or o []) (entry_log S r p (omega (arith, low, disks)))
-          ∙ ap (λ b. unwrap_or (if b then None else list_in (disk_at r.old.disks p).seen) []) (none_aside p low)
-          ∙ sym (opened_is p low)
-
-      pub lists_are : taken_lists S.set.shape (entry_logs S r) ≡ whole_from (opened_lists S.set story.found) 0 S.set.shape.shards
-      lists_are = entry_lists S r (opened_lists S.set story.found) one disks entry_is

@@ -1,5 +1,5 @@
 -- The course of a run whose core goes on begins with a Good and a Took for each shard, with any number of copies: whose Good stands there, and whose below a moment.
-use Rattle.std.proofs.Common.{◌≡◌, ◌∙◌, ◌⊎◌, inl, inr, ap, sym, ℕ, zero, suc, ◌+◌, ◌<◌, ◌≤◌, ◌==◌, ◌&&◌, ◌||◌, Bool, true, false, List, [], ◌∷◌, ◌++◌, Option, Some, None, refl, length, map, take, nat_lt, arith}
+use Rattle.std.proofs.Common.{◌≡◌, ◌∙◌, inl, inr, ap, ℕ, zero, suc, ◌+◌, ◌<◌, ◌≤◌, ◌==◌, ◌&&◌, ◌||◌, Bool, true, false, List, [], ◌∷◌, ◌++◌, Option, Some, None, refl, length, map, take, nat_lt, arith}
 use Rattle.std.proofs.lemmas.Bool.{cases_eq, eq-eqb, ne_eqb}
 use Rattle.std.proofs.lemmas.Bool.Decides.{nat_tests}
 use Rattle.std.specs.List.{AllByRecursion, list_any, range_with_len}
@@ -45,7 +45,7 @@ module _ (shape : Shape) (logs : List (Option Numbered)) (moment : ℕ) (peer : 
 
 module _ (peer number : ℕ → ℕ) (moment : ℕ) where
   rows_long : (k n : ℕ) → length (rows peer number moment k n) ≡ n + n
-  rows_long k zero = omega arith
+  rows_long k zero = refl
   rows_long k (suc n) = let rest = rows_long (k + 1) n in omega (arith, rest)
 
   front_is : (xs ys : List CourseItem) (c : ℕ) → length xs ≡ c → take c (xs ++ ys) ≡ xs

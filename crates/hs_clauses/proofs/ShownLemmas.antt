@@ -32,7 +32,7 @@ stands_seen [] k = refl
 stands_seen (d ∷ disks) zero = refl
 stands_seen (d ∷ disks) (suc k) = stands_seen disks k
 
-seen_as : (disks : List DiskSeen) (objects : List Standing) (p : ℕ) → stands_of disks ≡ objects → (seen_at disks p).stands ≡ disk_at objects p
+pub seen_as : (disks : List DiskSeen) (objects : List Standing) (p : ℕ) → stands_of disks ≡ objects → (seen_at disks p).stands ≡ disk_at objects p
 seen_as disks objects p same = sym (stands_seen disks p) ∙ ap (λ (ds : List Standing). disk_at ds p) same
 
 -- calls that keep a disk's list, as a run sees it

@@ -11,8 +11,6 @@ use Rattle.hs_core_words.specs.Looking.{shards_of, status_of}
 use Rattle.hs_core_words.specs.Opening.{Taken, begin_views, first_members, new_core, note_down, note_if_down, open_core}
 use Rattle.hs_core_words.specs.State.{Core}
 use Rattle.hs_core_words.specs.Step.{begin_event, do_event, end_event, keep_entries, line_of, refuse_entries, run_event, step}
-use Rattle.hs_desk.specs.declared.fault.CoreFault.{CoreFault}
-use Rattle.hs_desk.specs.declared.fault.CoreFault.TheVariants as fault
 use Rattle.hs_events.proofs.KeepLemmas.{Leaves, ReportLeaves, keeps_do, with_line}
 use Rattle.hs_events.specs.Course.{steps}
 use Rattle.hs_events.specs.Due.{Events}

@@ -1,11 +1,11 @@
--- A run over sound lists; and one on disks that tell their contents, with one copy of each shard, and what is shown of it.
-use Rattle.std.specs.Prelude.{IsSome, None, Option, Some, length, true, ℕ, ◌<◌, ◌≡◌, ◌≤◌}
+-- A run over sound lists; one on disks that tell their contents, for any number of copies; and with one copy of each shard what is shown of its disks at each moment.
+use Rattle.std.specs.Prelude.{IsSome, None, Option, Some, length, true, ℕ, ◌<◌, ◌≡◌, ◌≤◌, ◌⊎◌}
 use Rattle.hs_clauses.specs.Asked.{start_of}
 use Rattle.hs_cluster.specs.Kept.{AreTold}
 use Rattle.hs_cluster.specs.Rooms.{HaveRecordRoom}
 use Rattle.hs_events.specs.Course.{happened}
 use Rattle.hs_events.specs.Found.{first_core}
-use Rattle.hs_events.specs.Taken.{peer_count, taken_lists}
+use Rattle.hs_events.specs.Taken.{peer_count}
 use Rattle.hs_events.specs.Whole.{open_whole}
 use Rattle.hs_fold.specs.Images.{IsLeft}
 use Rattle.hs_fold.specs.Shards.Images.{Image}
@@ -19,15 +19,14 @@ use Rattle.hs_peerlog.specs.Images.{LeavesOnly}
 use Rattle.hs_ports.specs.Moments.{disk_at}
 use Rattle.hs_ports.specs.Objects.{IsDuring}
 use Rattle.hs_promise.specs.Ending.{ending_of}
-use Rattle.hs_promise.specs.Entry.{entry_logs, entry_store}
+use Rattle.hs_promise.specs.Entry.{entry_store}
 use Rattle.hs_promise.specs.Found.{IsReadAs}
 use Rattle.hs_promise.specs.Machine.{NeverOpened, Went}
 use Rattle.hs_promise.specs.Run.{Ran, Script}
 use Rattle.hs_promise.specs.Story.{Story, all_events}
 use Rattle.hs_side.specs.Current.{list_in}
 use Rattle.hs_standing.specs.Answered.{TellTheirBlocks}
-use Rattle.hs_standing.specs.Lists.{whole_from}
-use Rattle.hs_standing.specs.Opening.{opened_lists}
+use Rattle.hs_standing.specs.Opening.{OpensSoundly}
 use Rattle.hs_standing.specs.Run.{RunBegins}
 use Rattle.hs_standing.specs.Standing.{judging_of}
 
@@ -58,16 +57,46 @@ pub record RunsSoundly (S : Script) (r : Ran) (story : Story) : Type 0 where
   pub rooms : HaveRecordRoom (first_core S.set story.found) (all_events story)
   pub blocks : TellTheirBlocks (judging_of (start_of S r)) (entry_store S r) (first_core S.set story.found) (all_events story)
 
--- for any number of copies it opens with the lists at entry
-abbrev pub OpensAtEntry : Script → Ran → Story → Type 0
-OpensAtEntry S r story = taken_lists S.set.shape (entry_logs S r) ≡ whole_from (opened_lists S.set story.found) 0 S.set.shape.shards
-
 -- so it is too where each report tells what the list of the peer that was asked has
 pub record RunsTold (S : Script) (r : Ran) (story : Story) : Type 0 where
   pub went : Went S r story
   pub begins : RunBegins (start_of S r) story.found
   pub rooms : HaveRecordRoom (first_core S.set story.found) (all_events story)
   pub told : (first_core S.set story.found).ended ≡ None → AreTold (open_whole S.set story.found) (all_events story)
+
+-- ---- on disks that tell their contents, for any number of copies
+
+-- a shape that is served, on a disk for each peer; blocks are named by addresses of 32 bytes, and line 0 is nobody's
+pub record HasItsDisks (S : Script) (r : Ran) : Type 0 where
+  pub shape : IsShape S.set.shape
+  pub names : GivesAddresses S.set.name
+  pub nobody : client_op (S.commands 0) ≡ None
+  pub disks : length r.old.disks ≡ peer_count S.set.shape
+
+-- it went as a story says, whose logs are those of its disks; a core that goes on has room for root records, and its reports tell of blocks what the lists have,
+-- where it opens over sound lists
+pub record IsToldAs (S : Script) (r : Ran) (story : Story) : Type 0 where
+  pub went : Went S r story
+  pub read : (peer : ℕ) → peer < peer_count S.set.shape → IsReadAs r story peer
+  pub rooms : HaveRecordRoom (first_core S.set story.found) (all_events story)
+  pub told : OpensSoundly S.set story.found → (first_core S.set story.found).ended ≡ None → AreTold (open_whole S.set story.found) (all_events story)
+
+-- or no core was opened
+abbrev pub ToldAs : Script → Ran → Option Story → Type 0
+ToldAs S r None = NeverOpened r
+ToldAs S r (Some story) = IsToldAs S r story
+
+-- all of it
+pub record IsToldRun (S : Script) (r : Ran) : Type 0 where
+  pub on : HasItsDisks S r
+  pub how : Option Story
+  pub told : ToldAs S r how
+
+-- with one copy of each shard, or where no call of a disk was ahead of the watch at entry: then reports tell what the lists have
+abbrev pub IsBehindAtEntry : Script → Ran → Type 0
+IsBehindAtEntry S r = (S.set.shape.copies ≡ 1) ⊎ ((peer : ℕ) → (disk_at r.old.disks peer).last ≤ r.old.moment)
+
+-- ---- with one copy of each shard
 
 -- it went as a story says, whose logs are those of its disks; a core that goes on has room for root records, and its reports tell of blocks what the lists have;
 -- and of the lists at each moment, whether the core goes on behind its opening or has ended with it
@@ -99,7 +128,7 @@ pub record OnDisks (S : Script) (r : Ran) : Type 0 where
   pub left : length r.new.disks ≡ S.set.shape.shards
 
 -- all of it
-pub record IsToldRun (S : Script) (r : Ran) : Type 0 where
+pub record IsShownRun (S : Script) (r : Ran) : Type 0 where
   pub on : OnDisks S r
   pub how : Option Story
   pub shown : ShownAs S r how

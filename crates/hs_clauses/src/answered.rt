@@ -15,12 +15,12 @@ use hs_standing::{
 };
 use hs_told::answers_stay_in_order;
 
-/// The store at entry of sound disks is valid (`valid`). What a run answers on them, with one copy of
-/// each shard, is a legal run of the plain store from there, with its answers, in the order of a journal
-/// (`answers`); so it is with what was refused, where the journal was full (`full`). A run that opened
-/// no core, or one that ended with its opening, has answered nothing. For any number of copies so it is of
-/// a run that begins over sound lists, and whose reports tell the bytes of their blocks (`soundly`,
-/// `refused`); and these do so where each tells what the list of the peer that was asked has (`told`).
+/// The store at entry of sound disks is valid (`valid`). What a run answers on them, with any number of
+/// copies of each shard, is a legal run of the plain store from there, with its answers, in the order of a
+/// journal (`answers`); so it is with what was refused, where the journal was full (`full`). A run that
+/// opened no core, or one that ended with its opening, has answered nothing. So it is of a run that begins
+/// over sound lists, and whose reports tell the bytes of their blocks (`soundly`, `refused`); and these do
+/// so where each tells what the list of the peer that was asked has (`told`).
 pub fn a_run_is_answered()
     ensures valid { (S : Script) (r : Ran) → IsSoundAtEntry S r → IsValid (entry_store S r) }
     ensures answers { (S : Script) (r : Ran)

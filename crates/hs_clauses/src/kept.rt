@@ -13,8 +13,8 @@ use hs_laws::{legal_runs_keep_all, what_is_kept_is_present};
 
 /// From a valid store on, behind each front of a journal that is answered as the plain store does all
 /// is present that is kept for a client (`along`). So it is of a run on disks that are sound at entry, with
-/// one copy of each shard (`run`), and for any number of copies of one that begins over sound lists, and
-/// whose reports tell the bytes of their blocks (`soundly`).
+/// any number of copies of each shard (`run`), and of one that begins over sound lists, and whose reports
+/// tell the bytes of their blocks (`soundly`).
 pub fn a_run_keeps()
     ensures along { (S : Script) (entry : Store) (r : Ran)
         → IsValid entry → Answers S entry r.journal → KeepsAlong S entry r }

@@ -1,5 +1,5 @@
-//! Clauses of the promise, of a run with one copy of each shard, and the bytes that its reads tell: laws, each a function
-//! without parameters whose clauses are the law.
+//! Clauses of the promise of a run, and the bytes that its reads tell: laws, each a function without parameters whose clauses
+//! are the law.
 #![tactic(auto)]
 
 mod answered;

@@ -1,5 +1,5 @@
 //! A run may stop at each moment.
-ghost use Rattle.hs_clauses.specs.Shown.{IsToldRun};
+ghost use Rattle.hs_clauses.specs.Shown.{IsShownRun};
 ghost use Rattle.hs_promise.specs.Entry.{MayStop, entry_store};
 ghost use Rattle.hs_promise.specs.Headers.{KeepsHeaders};
 ghost use Rattle.hs_promise.specs.Run.{Ran, Script};
@@ -19,7 +19,7 @@ use hs_told::answers_stay_in_order;
 /// leaves the headers of the peers is shown of any run beside this.
 pub fn a_run_may_stop()
     ensures { (S : Script) (r : Ran)
-        → IsToldRun S r → KeepsHeaders S r → MayStop S r → Stops S (entry_store S r) r }
+        → IsShownRun S r → KeepsHeaders S r → MayStop S r → Stops S (entry_store S r) r }
 {
     catalogues_in_memory_are_folds();
     each_report_tells_its_block();

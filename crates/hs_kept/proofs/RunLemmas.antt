@@ -4,11 +4,12 @@ use Rattle.std.proofs.lemmas.List.{length-map}
 use Rattle.std.specs.List.{AllByRecursion}
 use Rattle.std.specs.Prelude.{IfSome, if◌then◌else◌}
 use Rattle.hs_answered.specs.Telling.{Judging}
+use Rattle.hs_clauses.proofs.AskedLemmas.{told_run as as_told}
 use Rattle.hs_clauses.proofs.EndedLemmas.{journal_notes}
 use Rattle.hs_clauses.proofs.ListLemmas.{none_aside}
 use Rattle.hs_clauses.proofs.NoteLemmas.{notes_answered, notes_legal}
 use Rattle.hs_clauses.proofs.ShownLemmas.{shown_of, unopened_of}
-use Rattle.hs_clauses.specs.Shown.{IsShown, IsToldRun, OnDisks, ShownAs}
+use Rattle.hs_clauses.specs.Shown.{IsShown, IsShownRun, OnDisks, ShownAs}
 use Rattle.hs_cluster.proofs.OpeningMoves.{all_good}
 use Rattle.hs_cluster.specs.Disks.{DiskSeen, stands_of}
 use Rattle.hs_desk.specs.declared.fault.CoreFault.{CoreFault}
@@ -75,7 +76,7 @@ module _ (tells : Type 0) (S : Script) (r : Ran) (told : tells) (one : S.set.sha
   shown_by (Some story) went read runs unopened =
       shown_of tells S r story on_disks runs.span told runs.before runs.now runs.old.stands runs.new.stands runs.shown went read.read
 
-  abbrev pub told_run : IsToldRun S r
+  abbrev pub told_run : IsShownRun S r
   told_run = record { on = on_disks; how = cluster.how; shown = shown_by cluster.how cluster.went (cluster.told told) cluster.runs (cluster.unopened one) }
 
 -- ---- a run whose core goes on behind its opening begins at the lists of its disks
@@ -103,7 +104,7 @@ pub record AnswersFrom (S : Script) (entry : Store) (journal : List JournalEntry
   pub replied : IsAnswered S.commands S.set.name S.set.limits entry journal
   pub led : AreLed journal
 
-module _ (laws : Laws) (S : Script) (r : Ran) (run : IsToldRun S r) (disks : List DiskSeen) (handed : stands_of disks ≡ r.old.disks) (sound : AreSoundAlong S.set (taken_lists S.set.shape (lists_of disks))) where
+module _ (laws : Laws) (S : Script) (r : Ran) (run : IsShownRun S r) (disks : List DiskSeen) (handed : stands_of disks ≡ r.old.disks) (sound : AreSoundAlong S.set (taken_lists S.set.shape (lists_of disks))) where
   abbrev entry : Store
   entry = opened S.set (or_blank (lists_of disks))
 
@@ -115,7 +116,7 @@ module _ (laws : Laws) (S : Script) (r : Ran) (run : IsToldRun S r) (disks : Lis
 
   by_story : (story : Story) → IsShown S r story → (o : Option CoreFault) → (first_core S.set story.found).ended ≡ o → AnswersFrom S entry r.journal
   by_story story shown (Some fault) ended =
-      let notes = journal_notes S r story run.on shown.went fault ended in
+      let notes = journal_notes S r story shown.went fault ended in
       record {
         legal = notes_legal by entry r.journal notes;
         replied = notes_answered by entry r.journal notes;
@@ -123,7 +124,7 @@ module _ (laws : Laws) (S : Script) (r : Ran) (run : IsToldRun S r) (disks : Lis
       }
   by_story story shown None going =
       let at : IsSoundAtEntry S r = sound_at S r story run.on shown going disks handed sound in
-      from_answers (subst (λ (s : Store). Answers S s r.journal) (store_is S r story run.on shown going disks handed) (laws.answers S r run at))
+      from_answers (subst (λ (s : Store). Answers S s r.journal) (store_is S r story run.on shown going disks handed) (laws.answers S r (as_told S r run) at))
       (laws.led S r story shown.went (laws.opens S r story run.on shown at going) (laws.stands S r story run.on shown at going))
 
   by_how : (how : Option Story) → ShownAs S r how → AnswersFrom S entry r.journal

@@ -9,7 +9,7 @@ use Rattle.hs_asker.specs.Silent.{asking_script, silent, status_by}
 use Rattle.hs_asking.specs.Lawful.{AreAnswersOf}
 use Rattle.hs_asking.specs.Shown.{store_now}
 use Rattle.hs_clauses.proofs.TakenLemmas.{lists_are}
-use Rattle.hs_clauses.specs.Shown.{IsToldRun, OnDisks}
+use Rattle.hs_clauses.specs.Shown.{IsShownRun, OnDisks}
 use Rattle.hs_cluster.specs.Disks.{DiskSeen, stands_of}
 use Rattle.hs_desk.specs.declared.fault.CoreFault.{CoreFault}
 use Rattle.hs_events.specs.Taken.{or_blank, taken_lists}
@@ -41,7 +41,7 @@ module _ (laws : Laws) (tells : Type 0) (e : AtEntry) (told : tells) (one : e.se
     cluster : IsOfCluster tells (asking_script e.set s.said) (ran_at (status_by s.ended) s.line (Some s.cluster) (silent e.moment e.disks) (silent s.now s.disks))
     cluster = ran_so tells e.set.name e s h
 
-    run : IsToldRun (asking_script e.set s.said) (ran_at (status_by s.ended) s.line (Some s.cluster) (silent e.moment e.disks) (silent s.now s.disks))
+    run : IsShownRun (asking_script e.set s.said) (ran_at (status_by s.ended) s.line (Some s.cluster) (silent e.moment e.disks) (silent s.now s.disks))
     run = told_run tells S (ran_at (status_by s.ended) s.line (Some s.cluster) (silent e.moment e.disks) (silent s.now s.disks)) told one names cluster
 
     answers : AnswersFrom (asking_script e.set s.said) (began_by e).store s.cluster.core.journal

@@ -3,7 +3,7 @@ use Rattle.std.proofs.Common.{◌≡◌, ◌∙◌, inl, inr, ap, sym, subst, re
 use Rattle.std.proofs.lemmas.Bool.{cases_lt}
 use Rattle.std.proofs.lemmas.List.{get_or_past, length-map}
 use Rattle.hs_clauses.proofs.ImageLemmas.{good_count}
-use Rattle.hs_clauses.specs.Shown.{IsToldRun, OnDisks}
+use Rattle.hs_clauses.specs.Shown.{IsShownRun, OnDisks}
 use Rattle.hs_events.specs.Taken.{taken_lists}
 use Rattle.hs_fold.specs.Good.{is_good}
 use Rattle.hs_fold.specs.Images.{IsLeft, image_at}
@@ -33,7 +33,7 @@ use Rattle.hs_top.specs.Rest.{EndsAtRest}
 
 -- what hs_clauses says of stops
 abbrev pub StopsAlong : Type 0
-StopsAlong = (S : Script) (r : Ran) → IsToldRun S r → KeepsHeaders S r → MayStop S r → Stops S (entry_store S r) r
+StopsAlong = (S : Script) (r : Ran) → IsShownRun S r → KeepsHeaders S r → MayStop S r → Stops S (entry_store S r) r
 
 -- ---- what disks read as
 

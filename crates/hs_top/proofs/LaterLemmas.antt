@@ -4,7 +4,7 @@ use Rattle.std.proofs.lemmas.Bool.{cases_lt}
 use Rattle.std.proofs.lemmas.List.Elements.{All-weaker}
 use Rattle.std.specs.Prelude.{IfSome}
 use Rattle.hs_clauses.proofs.ShownLemmas.{shown_of, unopened_of}
-use Rattle.hs_clauses.specs.Shown.{IsToldRun, OnDisks, ShownAs}
+use Rattle.hs_clauses.specs.Shown.{IsShownRun, OnDisks, ShownAs}
 use Rattle.hs_cluster.proofs.RunLemmas.{runs_later}
 use Rattle.hs_cluster.specs.RunsOn.{RunsOn}
 use Rattle.hs_core_words.specs.State.{Core}
@@ -157,7 +157,7 @@ module _ (S : Script) (r : Ran) where
     since_by None runs unopened = (unopened refl).since told
     since_by (Some story) runs unopened = runs.since told
 
-    pub run_later : (cluster : IsOfCluster tells S r) → IsToldRun S (later r)
+    pub run_later : (cluster : IsOfCluster tells S r) → IsShownRun S (later r)
     run_later cluster = record {
       on = on_later on;
       how = cluster.how;

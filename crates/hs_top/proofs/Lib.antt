@@ -1,6 +1,7 @@
 pub mod AgainLemmas
 pub mod CalledLemmas
 pub mod EndLemmas
+pub mod FromEntryLemmas
 pub mod LaterLemmas
 pub mod LawLemmas
 pub mod LimitLemmas

@@ -1,6 +1,7 @@
 -- Why peers are set aside, and that the count of each disk rose by all failures that its reports tell.
-use Rattle.std.proofs.Common.{◌≡◌, ◌∙◌, ◌⊎◌, inl, inr, ap, sym, subst, ℕ, ◌+◌, ◌*◌, ◌<◌, ◌==◌, ◌++◌, not, List, [], Option, Some, None, false, true, refl, length, arith}
-use Rattle.std.specs.Prelude.{IsSome, if◌then◌else◌, slice_index_or, unwrap_or}
+use Rattle.std.proofs.Common.{◌≡◌, ◌∙◌, ◌⊎◌, inl, inr, ap, sym, subst, ℕ, ◌+◌, ◌*◌, ◌<◌, ◌&&◌, ◌++◌, not, List, [], Option, Some, None, false, true, refl, length, arith}
+use Rattle.std.specs.List.{list_any}
+use Rattle.std.specs.Prelude.{IsSome, slice_index_or, unwrap_or}
 use Rattle.hs_clauses.proofs.ListLemmas.{log_counts, opened_is}
 use Rattle.hs_clauses.proofs.ReadLemmas.{from_empty, read_from_one}
 use Rattle.hs_clauses.specs.Shown.{IsShown, OnDisks}
@@ -10,13 +11,12 @@ use Rattle.hs_events.specs.Found.{first_core, opened_list, starts_good}
 use Rattle.hs_events.specs.Reports.{failures}
 use Rattle.hs_events.specs.Sane.{IsFromOne}
 use Rattle.hs_events.specs.Whole.{open_whole}
+use Rattle.hs_fold.specs.Shards.Course.{begins}
 use Rattle.hs_fold.specs.Shards.Setting.{Numbered}
 use Rattle.hs_journal.specs.declared.entry.JournalEntry.{JournalEntry}
-use Rattle.hs_journal.specs.Notes.{is_first_noted}
 use Rattle.hs_ports.specs.declared.disk.Side.{Side}
 use Rattle.hs_ports.specs.Moments.{disk_at}
-use Rattle.hs_model.specs.declared.course.CourseItem.{CourseItem}
-use Rattle.hs_promise.specs.Entry.{is_aside, opens_good}
+use Rattle.hs_promise.specs.Entry.{is_aside, tells_aside}
 use Rattle.hs_promise.specs.Found.{IsReadAs}
 use Rattle.hs_promise.specs.Machine.{NeverOpened, loss_count}
 use Rattle.hs_promise.specs.Run.{DiskRose, Ran, Script}
@@ -33,9 +33,7 @@ WhyAside r p = DiskRose r 1 p ⊎ (list_in (disk_at r.old.disks p).seen ≡ None
 pub never_aside : (S : Script) (r : Ran) → NeverOpened r → (p : ℕ) → is_aside S r p ≡ true → WhyAside r p
 never_aside S r never p is =
     let empty : r.journal ++ r.refused ≡ [] = λ i. never.journal i ++ never.refused i in
-    let noted : is_first_noted p (r.journal ++ r.refused) ≡ true =
-    subst (λ (items : List CourseItem). (if length items == 0 then is_first_noted p (r.journal ++ r.refused) else not (opens_good S.set.shape.shards items p)) ≡ true) never.course is in
-    let false_too : false ≡ true = subst (λ (entries : List JournalEntry). is_first_noted p entries ≡ true) empty noted in
+    let none_told : false ≡ true = subst (λ (es : List JournalEntry). (list_any (tells_aside r.course p) es && not (begins S.set.shape.shards r.course p)) ≡ true) empty is in
     absurd (cc)
 
 pub why_aside : (S : Script) (r : Ran) (story : Story) (on : OnDisks S r) (shown : IsShown S r story) (p : ℕ) → p < length r.old.disks → is_aside S r p ≡ true → WhyAside r p

@@ -1,25 +1,22 @@
 -- What is promised of a run, from what hs_run says of it and the laws.
-use Rattle.std.proofs.Common.{◌≡◌, ◌∙◌, ap, refl, true, ℕ, ◌*◌, ◌<◌, ◌++◌, arith, List, Option, Some, None, length}
+use Rattle.std.proofs.Common.{◌≡◌, ◌∙◌, inl, ap, refl, true, ℕ, ◌*◌, ◌<◌, ◌++◌, arith, List, Option, Some, None, length}
 use Rattle.std.proofs.lemmas.Bool.{false≢true}
 use Rattle.std.specs.Prelude.{IfSome, IsSome}
 use Rattle.hs_settled.specs.Printing.{FailsInOpening, FailsInText, LeavesUnread}
 use Rattle.hs_clauses.proofs.FoundLemmas.{opens_good}
 use Rattle.hs_clauses.proofs.ShownLemmas.{shown_of, unopened_of}
-use Rattle.hs_clauses.specs.Shown.{IsToldRun, OnDisks, ShownAs}
-use Rattle.hs_desk.specs.declared.fault.CoreFault.{CoreFault}
-use Rattle.hs_settled.specs.Calm.{AreLed, whole_of}
+use Rattle.hs_clauses.specs.Shown.{IsShownRun, OnDisks, ShownAs}
 use Rattle.hs_settled.specs.Ending.{HasItsCause, TellsAsPromised}
-use Rattle.hs_events.specs.Found.{first_core, starts_good}
+use Rattle.hs_events.specs.Found.{starts_good}
 use Rattle.hs_standing.specs.Held.{GivesAddresses}
 use Rattle.hs_journal.specs.Events.{client_op}
 use Rattle.hs_model.specs.declared.command.Command.{Command}
 use Rattle.hs_promise.specs.Answers.{Prints}
 use Rattle.hs_promise.specs.Causes.{Cause}
-use Rattle.hs_promise.specs.Completes.{EndsWell, MayEndWell, SettlesEach}
+use Rattle.hs_promise.specs.Completes.{EndsWell, MayEndWell}
 use Rattle.hs_promise.specs.declared.status.Status.TheVariants as status
-use Rattle.hs_promise.specs.Deletes.{Deletes}
 use Rattle.hs_promise.specs.Ends.{Ends}
-use Rattle.hs_promise.specs.Entry.{IsSoundAtEntry, entry_store, is_aside}
+use Rattle.hs_promise.specs.Entry.{IsSoundAtEntry, is_aside}
 use Rattle.hs_promise.specs.Lost.{NotesCause}
 use Rattle.hs_promise.specs.Machine.{WentAs}
 use Rattle.hs_promise.specs.Promise.{Clauses}
@@ -29,12 +26,12 @@ use Rattle.hs_promise.specs.Story.{Story}
 use Rattle.hs_run.proofs.CaseLemmas.{if_told}
 use Rattle.hs_run.specs.Machine.{HasItsEnd, HasReadDisks, IsOfCluster, IsUnopened, RunsOnDisks}
 use Rattle.hs_script.specs.Reading.{commands}
+use Rattle.hs_top.proofs.FromEntryLemmas.{from_entry, led, whole}
 use Rattle.hs_top.proofs.LawLemmas.{Laws}
 use Rattle.hs_top.proofs.NoteLemmas.{WhyAside, failed_by, never_aside, why_aside}
 use Rattle.hs_top.proofs.RankLemmas.{ranked_by}
-use Rattle.hs_top.proofs.SettleLemmas.{no_line, settles_none}
 use Rattle.hs_top.proofs.PastLemmas.{never_past}
-use Rattle.hs_top.specs.Calls.{Promised, PromisedAlone, PromisedWhereTold}
+use Rattle.hs_top.specs.Calls.{FromEntry, Promised, PromisedAlone, PromisedWhereTold}
 
 module _ (laws : Laws) (tells : Type 0) (S : Script) (r : Ran) (names : GivesAddresses S.set.name) (asked : r.ending ≡ status.Usage → ⊥) (cluster : IsOfCluster tells S r) where
   nobody : client_op (S.commands 0) ≡ None
@@ -101,16 +98,11 @@ module _ (laws : Laws) (tells : Type 0) (S : Script) (r : Ran) (names : GivesAdd
       shown : ShownAs S r cluster.how
       shown = shown_by cluster.how cluster.went (cluster.told told) cluster.runs (cluster.unopened one)
 
-      run : IsToldRun S r
+      run : IsShownRun S r
       run = record { on = on; how = cluster.how; shown = shown }
 
-      deletes_by : (how : Option Story) → WentAs S r how → ShownAs S r how → IsSoundAtEntry S r → Deletes S (entry_store S r) r
-      deletes_by None went so sound = laws.deletes_never S r went
-      deletes_by (Some story) went so sound = go (first_core S.set story.found).ended refl
-        where
-          go : (o : Option CoreFault) → (first_core S.set story.found).ended ≡ o → Deletes S (entry_store S r) r
-          go None going = laws.deletes S r story went (laws.opens S r story on so sound going) (laws.stands S r story on so sound going)
-          go (Some fault) ended = laws.deletes_ended S r story fault went ended
+      of_entry : IsSoundAtEntry S r → FromEntry S r
+      of_entry sound = from_entry laws tells S r names cluster told (inl one) sound
 
       aside_by : (how : Option Story) → WentAs S r how → ShownAs S r how → (p : ℕ) → p < length r.old.disks → is_aside S r p ≡ true → WhyAside r p
       aside_by None went so p low is = never_aside S r went p is
@@ -121,33 +113,7 @@ module _ (laws : Laws) (tells : Type 0) (S : Script) (r : Ran) (names : GivesAdd
       notes_by (Some story) went read runs so =
           laws.notes S r story went read.read (runs.lost told) (λ going. failed_by laws S r story on so going tells told runs) (λ several. absurd (several one))
 
-      -- ---- what each settle has done
-
-      settles_by : (how : Option Story) → WentAs S r how → ShownAs S r how → IsSoundAtEntry S r → SettlesEach S (entry_store S r) r
-      settles_by None went so sound = settles_none S (entry_store S r) r cluster.nobody went.line
-      settles_by (Some story) went so sound = go (first_core S.set story.found).ended refl
-        where
-          go : (o : Option CoreFault) → (first_core S.set story.found).ended ≡ o → SettlesEach S (entry_store S r) r
-          go None going = laws.settles S r story went cluster.nobody (laws.opens S r story on so sound going) (laws.stands S r story on so sound going) (laws.answers S r run sound)
-          go (Some fault) ended = settles_none S (entry_store S r) r cluster.nobody (no_line S r story fault went ended)
-
       -- ---- how a run without faults ends
-
-      whole_by : (how : Option Story) → WentAs S r how → ShownAs S r how → IsSoundAtEntry S r → Deletes S (entry_store S r) (whole_of r)
-      whole_by None went so sound = laws.whole_never S r went
-      whole_by (Some story) went so sound = go (first_core S.set story.found).ended refl
-        where
-          go : (o : Option CoreFault) → (first_core S.set story.found).ended ≡ o → Deletes S (entry_store S r) (whole_of r)
-          go None going = laws.whole S r story went (laws.opens S r story on so sound going) (laws.stands S r story on so sound going)
-          go (Some fault) ended = laws.whole_ended S r story fault went ended
-
-      led_by : (how : Option Story) → WentAs S r how → ShownAs S r how → IsSoundAtEntry S r → AreLed (r.journal ++ r.refused)
-      led_by None went so sound = laws.led_never r went
-      led_by (Some story) went so sound = go (first_core S.set story.found).ended refl
-        where
-          go : (o : Option CoreFault) → (first_core S.set story.found).ended ≡ o → AreLed (r.journal ++ r.refused)
-          go None going = laws.led S r story went (laws.opens S r story on so sound going) (laws.stands S r story on so sound going)
-          go (Some fault) ended = laws.led_ended S r story fault went ended
 
       its_cause : HasItsCause S r
       its_cause = record { cause = cause; asked = asked; shape = (cluster.served.shape told).only }
@@ -157,9 +123,9 @@ module _ (laws : Laws) (tells : Type 0) (S : Script) (r : Ran) (names : GivesAdd
         valid = laws.valid S r sound;
         entries = laws.entries S r cluster.how cluster.went;
         notes = notes_by cluster.how cluster.went (cluster.told told) cluster.runs shown;
-        full = laws.full S r run sound;
-        deletes = whole_by cluster.how cluster.went shown sound;
-        led = led_by cluster.how cluster.went shown sound;
+        full = (of_entry sound).full;
+        deletes = whole laws tells S r names cluster told (inl one) sound;
+        led = led laws tells S r names cluster told (inl one) sound;
       }
 
       ends_by : (old new : Option (List ℕ)) → IfSome old (λ script. (n : ℕ) → S.commands n ≡ commands script n) → IfSome old (λ script. IfSome new (Ends r script))
@@ -172,11 +138,11 @@ module _ (laws : Laws) (tells : Type 0) (S : Script) (r : Ran) (names : GivesAdd
 
       clauses : IsSoundAtEntry S r → Clauses S r
       clauses sound = record {
-        answers = laws.answers S r run sound;
-        full = laws.full S r run sound;
-        keeps = laws.keeps S r run sound;
-        deletes = deletes_by cluster.how cluster.went shown sound;
-        settles = settles_by cluster.how cluster.went shown sound;
+        answers = (of_entry sound).answers;
+        full = (of_entry sound).full;
+        keeps = (of_entry sound).keeps;
+        deletes = (of_entry sound).deletes;
+        settles = (of_entry sound).settles;
         ends = ends_by r.old.left r.new.left cluster.script cluster.served.ends cluster.served.left sound;
       }
 
@@ -214,5 +180,6 @@ module _ (laws : Laws) (tells : Type 0) (S : Script) (r : Ran) (names : GivesAdd
     ends = cluster.served.ends;
     shape = cluster.served.shape;
     headers = cluster.served.headers;
+    from_entry = λ told behind sound. from_entry laws tells S r names cluster told behind sound;
     alone = promised_alone;
   }

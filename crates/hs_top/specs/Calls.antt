@@ -2,6 +2,7 @@
 use Rattle.std.specs.Prelude.{IfSome, List, None, Option, [], length, true, ℕ, ◌<◌, ◌≡◌, ◌⊎◌}
 use Rattle.hs_checks.specs.Audited.{IsAudited}
 use Rattle.hs_checks.specs.Compared.{IsCompared}
+use Rattle.hs_clauses.specs.Shown.{IsBehindAtEntry}
 use Rattle.hs_journal.specs.Order.{IsOrdered}
 use Rattle.hs_kept.specs.Copied.{CopiesAndKeeps}
 use Rattle.hs_kept.specs.Kept.{FetchesAndGives, StoresAndKeeps}
@@ -11,13 +12,15 @@ use Rattle.hs_load.specs.Loaded.{IsLoaded}
 use Rattle.hs_model.specs.declared.command.Command.{Command}
 use Rattle.hs_ports.specs.Moments.{disk_at}
 use Rattle.hs_ports.specs.Objects.{CountsStand, KeepsPast, KeepsTime}
-use Rattle.hs_promise.specs.Answers.{Prints}
+use Rattle.hs_promise.specs.Answers.{Answers, Prints}
 use Rattle.hs_promise.specs.Calm.{EndsCalm}
-use Rattle.hs_promise.specs.Causes.{Cause, CauseButLoss}
-use Rattle.hs_promise.specs.Completes.{HasPrompt}
+use Rattle.hs_promise.specs.Causes.{Cause, CauseButLoss, FullCause}
+use Rattle.hs_promise.specs.Completes.{HasPrompt, SettlesEach}
+use Rattle.hs_promise.specs.Deletes.{Deletes}
 use Rattle.hs_promise.specs.Ends.{Ends}
 use Rattle.hs_promise.specs.Entry.{IsSoundAtEntry, MayStop, entry_store, is_aside}
 use Rattle.hs_promise.specs.Headers.{KeepsHeaders}
+use Rattle.hs_promise.specs.Kept.{KeepsAlong}
 use Rattle.hs_promise.specs.Lost.{NoneGoodCause, NotesCause, NotesEnd}
 use Rattle.hs_promise.specs.Promise.{AreOfScript, Clauses, IsUsage}
 use Rattle.hs_promise.specs.Run.{DiskRose, IsNoLoad, Ran, Script, script_of}
@@ -40,6 +43,14 @@ pub record PromisedWhereTold (S : Script) (r : Ran) : Type 0 where
   pub past : KeepsPast r.old r.new
   pub aside : (peer : ℕ) → peer < length r.old.disks → is_aside S r peer ≡ true → DiskRose r 1 peer ⊎ (list_in (disk_at r.old.disks peer).seen ≡ None)
   pub notes : NotesCause S r
+
+-- clauses 1, 2 and 4, and of clause 5 what each settle has done: from the store at entry, with any number of copies
+pub record FromEntry (S : Script) (r : Ran) : Type 0 where
+  pub answers : Answers S (entry_store S r) r.journal
+  pub full : FullCause S (entry_store S r) r
+  pub keeps : KeepsAlong S (entry_store S r) r
+  pub deletes : Deletes S (entry_store S r) r
+  pub settles : SettlesEach S (entry_store S r) r
 
 -- so far with one copy a shard: why one is lost, whatever the disks tell; what notes tell, and how long a peer is good
 pub record PromisedAlone (tells : Type 0) (S : Script) (r : Ran) : Type 0 where
@@ -65,6 +76,7 @@ pub record Promised (tells : Type 0) (S : Script) (r : Ran) : Type 0 where
   pub ends : IfSome r.old.left (λ script. IfSome r.new.left (Ends r script))
   pub shape : tells → ShapeCause S r
   pub headers : tells → KeepsHeaders S r
+  pub from_entry : tells → IsBehindAtEntry S r → IsSoundAtEntry S r → FromEntry S r
   pub alone : S.set.shape.copies ≡ 1 → PromisedAlone tells S r
 
 -- ---- what a call promises

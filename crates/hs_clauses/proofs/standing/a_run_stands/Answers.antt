@@ -1,4 +1,4 @@
-use Rattle.hs_clauses.proofs.AskedLemmas.{IsAskedOf, asked_of, begins_at_entry, run_opens}
+use Rattle.hs_clauses.proofs.AskedLemmas.{IsAskedOf, asked_of, begins_at_entry, run_opens, runs_soundly}
 use Rattle.hs_clauses.proofs.ComingLemmas.{ComingLaws}
 use Rattle.hs_clauses.proofs.KeptRunLemmas.{all_kept}
 use Rattle.hs_clauses.proofs.standing.a_run_stands.Goals as goal
@@ -25,9 +25,8 @@ returns-clause-keeps c = λ S r story on shown sound going.
     all_kept coming c.catalogues_in_memory_are_folds.ensures.list S r story asked.runs
 
 pub returns-clause-soundly : goal.returns-clause-soundly
-returns-clause-soundly c = λ S r story on shown sound going.
-    let asked : IsAskedOf S r story = asked_of c.catalogues_in_memory_are_folds.ensures.list c.each_report_tells_its_block.ensures.script S r story on sound shown going in
-    asked.runs
+returns-clause-soundly c = λ S r story on told sound going.
+    runs_soundly c.catalogues_in_memory_are_folds.ensures.list c.each_report_tells_its_block.ensures.script S r story on told sound going
 
 pub returns-clause-events : goal.returns-clause-events
 returns-clause-events c = λ S r story run.
@@ -45,4 +44,4 @@ returns-clause-events c = λ S r story run.
     all_kept coming c.catalogues_in_memory_are_folds.ensures.list S r story run
 
 pub returns-clause-begins : goal.returns-clause-begins
-returns-clause-begins c = λ S r story went read shape names nobody sound at_entry. begins_at_entry S r story went read shape names nobody sound at_entry
+returns-clause-begins c = λ S r story on went read sound going. begins_at_entry S r story went read on sound going

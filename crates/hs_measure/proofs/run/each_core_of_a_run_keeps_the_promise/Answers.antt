@@ -1,3 +1,4 @@
+use Rattle.hs_clauses.proofs.AskedLemmas.{its_disks, told_as}
 use Rattle.hs_clauses.specs.Asked.{start_of}
 use Rattle.hs_core_words.specs.State.{Core}
 use Rattle.hs_events.specs.Course.{steps}
@@ -27,5 +28,5 @@ returns-clause-deletes c = λ S r story run.
 
 pub returns-clause-disks : goal.returns-clause-disks
 returns-clause-disks c = λ S r story on shown sound going n.
-    let run = c.a_run_stands.ensures.soundly S r story on shown sound going in
+    let run = c.a_run_stands.ensures.soundly S r story (its_disks S r on) (told_as S r story shown) sound going in
     c.each_event_keeps_the_promise.ensures.run (start_of S r) story.found (all_events story) run.begins (c.a_run_stands.ensures.events S r story run) n

@@ -1,5 +1,3 @@
-use Rattle.hs_clauses.specs.Asked.{start_of}
-use Rattle.hs_standing.proofs.TakenLemmas.{run_begins}
 use Rattle.hs_top.proofs.LawLemmas.{Laws}
 use Rattle.hs_top.proofs.PromisedLemmas.{promised_of}
 use Rattle.hs_top.proofs.top.run_script.Goals as goal
@@ -11,8 +9,8 @@ returns g c =
       full = c.a_run_is_answered.ensures.full;
       keeps = c.a_run_keeps.ensures.run;
       stops = c.a_run_may_stop.ensures;
-      opens = λ S r story on shown sound going. run_begins (start_of S r) story.found (c.a_run_stands.ensures.opens S r story on shown sound going);
-      stands = c.a_run_stands.ensures.keeps;
+      soundly = c.a_run_stands.ensures.soundly;
+      events = c.a_run_stands.ensures.events;
       deletes = c.a_run_deletes_as_promised.ensures.went;
       deletes_ended = c.a_run_deletes_as_promised.ensures.ended;
       deletes_never = c.a_run_deletes_as_promised.ensures.never;
