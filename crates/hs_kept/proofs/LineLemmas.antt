@@ -44,8 +44,10 @@ left_at (x ∷ xs) ys zero e at = at
 left_at (x ∷ xs) ys (suc i) e at = left_at xs ys i e at
 
 right_at : (xs ys : List JournalEntry) (i : ℕ) (e : JournalEntry) → slice_get ys i ≡ Some e → slice_get (xs ++ ys) (length xs + i) ≡ Some e
-right_at [] ys i e at = at
-right_at (x ∷ xs) ys i e at = right_at xs ys i e at
+right_at [] ys i e at = subst (λ (k : ℕ). slice_get ys k ≡ Some e) (let same : i ≡ 0 + i = omega arith in same) at
+right_at (x ∷ xs) ys i e at =
+    let next : suc (length xs + i) ≡ length (x ∷ xs) + i = omega arith in
+    subst (λ (k : ℕ). slice_get (x ∷ (xs ++ ys)) k ≡ Some e) next (right_at xs ys i e at)
 
 -- no line has two entries
 pub never_twice : (commands : ℕ → Option Command) (n : ℕ) (xs ys : List JournalEntry) → IsOrdered commands (xs ++ ys) → HasLine n xs → HasLine n ys → ⊥
@@ -87,8 +89,8 @@ where_line n (x ∷ xs) = go (where_line n xs) x.who refl
     no_store b e = cc e
 
     by_rest : IsOfAnother n x → HasLine n xs ⊎ AllByRecursion (IsOfAnother n) xs → HasLine n (x ∷ xs) ⊎ AllByRecursion (IsOfAnother n) (x ∷ xs)
-    by_rest no (inl h) = inl (inr h)
-    by_rest no (inr all) = inr (no, all)
+    by_rest other (inl h) = inl (inr h)
+    by_rest other (inr all) = inr (other, all)
 
     go : HasLine n xs ⊎ AllByRecursion (IsOfAnother n) xs → (w : Who) → x.who ≡ w → HasLine n (x ∷ xs) ⊎ AllByRecursion (IsOfAnother n) (x ∷ xs)
     go rest (who.Line k) is = elim (cases_eq k n) [
