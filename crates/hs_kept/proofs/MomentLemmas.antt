@@ -1,13 +1,13 @@
 -- At each moment of a run whose core goes on behind its opening, what is pending is what its lines ask for.
 use Rattle.std.proofs.Common.{◌≡◌, ◌∙◌, inl, inr, ap, sym, subst, refl, ℕ, ◌+◌, ◌<◌, ◌==◌, ◌&&◌, Bool, true, false, List, None, length, arith, if◌then◌else◌}
 use Rattle.std.specs.Prelude.{filter}
-use Rattle.hs_clauses.proofs.AskedLemmas.{IsAskedOf}
+use Rattle.hs_clauses.proofs.AskedLemmas.{IsAskedOf, its_disks, told_as}
 use Rattle.hs_clauses.proofs.CourseLemmas.{some_course}
 use Rattle.hs_clauses.proofs.FoundLemmas.{opens_begins}
 use Rattle.hs_clauses.proofs.ListLemmas.{none_aside}
 use Rattle.hs_clauses.proofs.MomentLemmas.{at_moment, good, one_list, state_then}
 use Rattle.hs_clauses.specs.Asked.{start_of}
-use Rattle.hs_clauses.specs.Shown.{HaveOneList, IsShown, OnDisks, RunsSoundly}
+use Rattle.hs_clauses.specs.Shown.{HasItsDisks, HaveOneList, IsShown, IsToldAs, OnDisks, RunsSoundly}
 use Rattle.hs_events.specs.Course.{items_of}
 use Rattle.hs_events.specs.Found.{Found, first_core}
 use Rattle.hs_events.specs.Taken.{taken_items}
@@ -35,7 +35,7 @@ pub record MomentLaws : Type 0 where
   pub opens : (S : Script) (r : Ran) (story : Story) → OnDisks S r → IsShown S r story → IsSoundAtEntry S r → (first_core S.set story.found).ended ≡ None → RunOpens (start_of S r) story.found
   pub stands : (S : Script) (r : Ran) (story : Story) → OnDisks S r → IsShown S r story → IsSoundAtEntry S r → (first_core S.set story.found).ended ≡ None
       → AllMayKeep (start_of S r) (MayRun (start_of S r)) (first_core S.set story.found) (all_events story)
-  pub soundly : (S : Script) (r : Ran) (story : Story) → OnDisks S r → IsShown S r story → IsSoundAtEntry S r → (first_core S.set story.found).ended ≡ None → RunsSoundly S r story
+  pub soundly : (S : Script) (r : Ran) (story : Story) → HasItsDisks S r → IsToldAs S r story → IsSoundAtEntry S r → (first_core S.set story.found).ended ≡ None → RunsSoundly S r story
   pub running : (start : Start) (found : Found) → RunOpens start found → IsRunning start (open_whole start.set found)
   pub goes_on : (start : Start) → RunsOn start
 
@@ -44,7 +44,7 @@ module _ (laws : MomentLaws) (S : Script) (r : Ran) (story : Story) (on : OnDisk
   opens = laws.opens S r story on shown may.sound going
 
   asked : IsAskedOf S r story
-  asked = record { on = on; sound = may.sound; read = shown.read; going = going; few = opens.well.few; runs = laws.soundly S r story on shown may.sound going }
+  asked = record { on = on; sound = may.sound; read = shown.read; going = going; few = opens.well.few; runs = laws.soundly S r story (its_disks S r on) (told_as S r story shown) may.sound going }
 
   has_shard : 0 < S.set.shape.shards
   has_shard = let some = on.shape.shards in elim some [

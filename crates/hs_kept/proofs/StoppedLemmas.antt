@@ -11,9 +11,10 @@ use Rattle.hs_asking.proofs.SeatLemmas.{seat_held, seat_kept}
 use Rattle.hs_asking.proofs.StayLemmas.{kept_whole}
 use Rattle.hs_asking.specs.Seats.{HasSeat}
 use Rattle.hs_asking.specs.Shown.{Began, Shown, store_now}
+use Rattle.hs_clauses.proofs.AskedLemmas.{told_run as as_told}
 use Rattle.hs_clauses.proofs.EndedLemmas.{journal_notes}
 use Rattle.hs_clauses.proofs.NoteLemmas.{IsNote}
-use Rattle.hs_clauses.specs.Shown.{IsShown, IsToldRun, ShownAs}
+use Rattle.hs_clauses.specs.Shown.{IsShown, IsShownRun, ShownAs}
 use Rattle.hs_desk.specs.declared.fault.CoreFault.{CoreFault}
 use Rattle.hs_events.specs.Found.{first_core}
 use Rattle.hs_events.specs.Taken.{or_blank, taken_lists}
@@ -72,7 +73,7 @@ use Rattle.hs_kept.specs.Stopped.{EndsWhole, GoesOn, KeepsKeyWhole, KeepsWhole}
 
 -- the clause of stops
 abbrev pub StopsSo : Type 0
-StopsSo = (S : Script) (r : Ran) → IsToldRun S r → KeepsHeaders S r → MayStop S r → Stops S (entry_store S r) r
+StopsSo = (S : Script) (r : Ran) → IsShownRun S r → KeepsHeaders S r → MayStop S r → Stops S (entry_store S r) r
 
 no_note : (n : ℕ) (xs : List JournalEntry) → AllByRecursion IsNote xs → HasLine n xs → ⊥
 no_note n [] notes h = h
@@ -119,7 +120,7 @@ module _ (laws : Laws) (moments : MomentLaws) (stops : StopsSo) (tells : Type 0)
     abbrev ran : Ran
     ran = beneath r asks.until (status_by now.ended)
 
-    abbrev told_ran : IsToldRun S ran
+    abbrev told_ran : IsShownRun S ran
     told_ran = told_run tells S ran told one names asks.machine
 
     valid_behind : IsValid (store_behind name shape now.commands r)
@@ -147,8 +148,8 @@ module _ (laws : Laws) (moments : MomentLaws) (stops : StopsSo) (tells : Type 0)
     ordered_by n has = by_how asks.machine.how refl
       where
         by_end : (story : Story) → asks.machine.how ≡ Some story → (o : Option CoreFault) → (first_core S.set story.found).ended ≡ o → IsOrdered now.commands r.journal
-        by_end story is None going = (laws.answers S ran told_ran (sound_of story is going)).ordered
-        by_end story is (Some fault) ended = absurd (no_note n r.journal (journal_notes S ran story told_ran.on (shown_of story is).went fault ended) has)
+        by_end story is None going = (laws.answers S ran (as_told S ran told_ran) (sound_of story is going)).ordered
+        by_end story is (Some fault) ended = absurd (no_note n r.journal (journal_notes S ran story (shown_of story is).went fault ended) has)
 
         by_how : (how : Option Story) → asks.machine.how ≡ how → IsOrdered now.commands r.journal
         by_how None is = absurd (subst (λ (journal : List JournalEntry). HasLine n journal) (subst (λ (o : Option Story). ShownAs S ran o) is told_ran.shown).never.journal has)

@@ -1,12 +1,13 @@
 -- A file that is stored stays so in a run of which no line drops its key.
-use Rattle.std.proofs.Common.{◌≡◌, ◌∙◌, ap, sym, subst, refl, ℕ, ◌+◌, Bool, true, false, List, [], ◌∷◌, Option, Some, None, if◌then◌else◌}
+use Rattle.std.proofs.Common.{◌≡◌, ap, sym, subst, refl, ℕ, zero, suc, ◌+◌, Bool, true, false, List, [], ◌∷◌, Option, Some, None, if◌then◌else◌}
 use Rattle.std.specs.List.{AllByRecursion}
+use Rattle.std.specs.Prelude.{drop, take}
 use Rattle.hs_asking.specs.Seats.{IsSane}
 use Rattle.hs_asking.specs.Staying.{NeverDrops, NotDropping}
-use Rattle.hs_clauses.proofs.EntryLemmas.{entry_count}
-use Rattle.hs_clauses.proofs.TakenLemmas.{lists_are}
 use Rattle.hs_clauses.specs.Shown.{IsToldRun}
+use Rattle.hs_entry.specs.Entries.{rank_of}
 use Rattle.hs_events.specs.Taken.{or_blank, taken_lists}
+use Rattle.hs_fold.specs.Opened.{chosen, chosen_each, outranks}
 use Rattle.hs_fold.specs.Shards.Setting.{Numbered}
 use Rattle.hs_founded.specs.Spelled.{AreSpelled, HoldBytes}
 use Rattle.hs_journal.specs.Events.{addressed, client_op, event_at, events_of, line_event, shard_event, store_by, with_event}
@@ -80,12 +81,33 @@ logs_spelled laws S r k (disk ∷ disks) bytes = go (is_aside S r k) (logs_spell
     go true rest = (tt, rest)
     go false rest = (laws.spelled disk.seen bytes.0, rest)
 
-module _ (laws : Laws) (S : Script) (r : Ran) (run : IsToldRun S r) (opens : OpensSound S r) where
-  lists_same : taken_lists S.set.shape (entry_logs S r) ≡ or_blank (entry_logs S r)
-  lists_same = lists_are S.set.shape (entry_logs S r) run.on.one (entry_count S r ∙ run.on.disks)
+-- of lists of which something is so, and of none, it is so of each that counts
+module _ (P : Numbered → Type 0) (none : P []) where
+  one_chosen : (lists : List Numbered) → AllByRecursion P lists → P (chosen lists)
+  one_chosen [] all = none
+  one_chosen (l ∷ ls) all = go (outranks (rank_of (chosen ls)) (rank_of l)) (one_chosen ls all.1)
+    where
+      go : (b : Bool) → P (chosen ls) → P (if b then chosen ls else l)
+      go true h = h
+      go false h = all.0
 
+  all_take : (n : ℕ) (lists : List Numbered) → AllByRecursion P lists → AllByRecursion P (take n lists)
+  all_take zero lists all = tt
+  all_take (suc n) [] all = tt
+  all_take (suc n) (l ∷ ls) all = (all.0, all_take n ls all.1)
+
+  all_drop : (n : ℕ) (lists : List Numbered) → AllByRecursion P lists → AllByRecursion P (drop n lists)
+  all_drop zero lists all = all
+  all_drop (suc n) [] all = tt
+  all_drop (suc n) (l ∷ ls) all = all_drop n ls all.1
+
+  all_chosen : (n copies : ℕ) (lists : List Numbered) → AllByRecursion P lists → AllByRecursion P (chosen_each n copies lists)
+  all_chosen zero copies lists all = tt
+  all_chosen (suc n) copies lists all = (one_chosen (take copies lists) (all_take copies lists all), all_chosen n copies (drop copies lists) (all_drop copies lists all))
+
+module _ (laws : Laws) (S : Script) (r : Ran) (run : IsToldRun S r) (opens : OpensSound S r) where
   spelled : AllByRecursion AreSpelled (taken_lists S.set.shape (entry_logs S r))
-  spelled = subst (λ (lists : List Numbered). AllByRecursion AreSpelled lists) (sym lists_same) (logs_spelled laws S r 0 r.old.disks opens.bytes)
+  spelled = all_chosen AreSpelled tt S.set.shape.shards S.set.shape.copies (or_blank (entry_logs S r)) (logs_spelled laws S r 0 r.old.disks opens.bytes)
 
   sane : IsSane (entry_store S r)
   sane = record {

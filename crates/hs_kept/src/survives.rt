@@ -8,9 +8,9 @@ use hs_founded::a_store_of_sound_lists_is_right;
 use hs_settled::shard_0_is_led_by_lines;
 use hs_standing::a_run_goes_on;
 
-/// In a run over disks that hold bytes and sound lists at entry, with one copy of each shard: a file that
-/// is stored under a key at entry is so behind what was answered, deletions among it, where no line drops
-/// its key.
+/// In a run over disks that hold bytes and sound lists at entry, with any number of copies of each shard:
+/// a file that is stored under a key at entry is so behind what was answered, deletions among it, where no
+/// line drops its key.
 pub fn a_kept_file_survives()
     ensures { (S : Script) (r : Ran) → IsToldRun S r → OpensSound S r → SurvivesRun S r }
 {
