@@ -52,12 +52,12 @@ record Passes (p : ℕ → Bool) (k n : ℕ) : Type 0 where
 
 passes_some : (p : ℕ → Bool) (k n : ℕ) → list_any p (range_with_len k n) ≡ true → Passes p k n
 passes_some p k zero e = absurd (false≢true e)
-passes_some p k (suc n) e = go (p k) refl e
+passes_some p k (suc n) e = go (λ rest. passes_some p (k + 1) n rest) (p k) refl e
   where
-    go : (b : Bool) → p k ≡ b → (b || list_any p (range_with_len (k + 1) n)) ≡ true → Passes p k (suc n)
-    go true is e = record { at = k; from = omega arith; to = omega arith; is = is }
-    go false is e =
-        let later : Passes p (k + 1) n = passes_some p (k + 1) n e in
+    go : (list_any p (range_with_len (k + 1) n) ≡ true → Passes p (k + 1) n) → (b : Bool) → p k ≡ b → (b || list_any p (range_with_len (k + 1) n)) ≡ true → Passes p k (suc n)
+    go again true is e = record { at = k; from = omega arith; to = omega arith; is = is }
+    go again false is e =
+        let later : Passes p (k + 1) n = again e in
         let f = later.from in
         let t = later.to in
         record { at = later.at; from = omega (arith, f); to = omega (arith, t); is = later.is }

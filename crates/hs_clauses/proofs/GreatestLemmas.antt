@@ -35,7 +35,7 @@ find_there p a zero j low high is = absurd (omega (arith, low, high))
 find_there p a (suc c) j low high is = go (p a) refl (λ next. find_there p (a + 1) c j next (omega (arith, high)) is)
   where
     other : (q : ℕ) → p a ≡ false → p q ≡ true → (a ≡ q → ⊥)
-    other q no yes same = let both : true ≡ false = sym yes ∙ ap p (sym same) ∙ no in cc both
+    other q misses passes same = let both : true ≡ false = sym passes ∙ ap p (sym same) ∙ misses in cc both
 
     go : (b : Bool) → p a ≡ b → (a + 1 ≤ j → FoundFirst p (a + 1) c) → FoundFirst p a (suc c)
     go true e rest = record {

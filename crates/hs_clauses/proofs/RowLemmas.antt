@@ -73,7 +73,7 @@ module _ (peer number : ℕ → ℕ) (moment : ℕ) where
   -- and whose doesn't
   pub rows_other : (p k n : ℕ) → ((j : ℕ) → k ≤ j → j < k + n → peer j ≡ p → ⊥) → AllByRecursion (λ i. is_good_of p i ≡ false) (rows peer number moment k n)
   rows_other p k zero h = tt
-  rows_other p k (suc n) h = (ne_eqb (peer k) p (h k (omega arith) (omega arith)), refl, rows_other p (k + 1) n (λ j low high. h j (omega (arith, low)) (omega (arith, high))))
+  rows_other p k (suc n) h = (ne_eqb (peer k) p (h k (omega arith) (omega arith)), (refl, rows_other p (k + 1) n (λ j low high. h j (omega (arith, low)) (omega (arith, high)))))
 
 -- ---- a Good below a moment
 

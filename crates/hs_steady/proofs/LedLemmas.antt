@@ -1,13 +1,12 @@
 -- A good peer's list is a front of its lead's, and so is what a stop leaves of its disk at a moment of a run.
-use Rattle.std.proofs.Common.{◌≡◌, ◌∙◌, ap, sym, subst, refl, inl, inr, ℕ, ◌+◌, ◌≤◌, not, Bool, true, false, List, [], ◌∷◌, ◌++◌, Some, None, length, map}
+use Rattle.std.proofs.Common.{◌≡◌, ◌∙◌, ap, sym, subst, refl, inl, inr, ℕ, ◌+◌, not, Bool, true, false, List, [], ◌∷◌, ◌++◌, Some, None, length, map}
 use Rattle.std.proofs.lemmas.Bool.{cases_lt}
 use Rattle.std.proofs.lemmas.List.{append_assoc, map-append}
 use Rattle.std.specs.List.{enumerate_from}
 use Rattle.hs_cluster.proofs.GoingOnLemmas.{going_before}
 use Rattle.hs_cluster.proofs.StretchLemmas.{runs_core}
-use Rattle.hs_cluster.specs.Disks.{seen_at, stands_of}
+use Rattle.hs_cluster.specs.Disks.{stands_of}
 use Rattle.hs_cluster.specs.Kept.{LeavesLists, Span}
-use Rattle.hs_cluster.specs.RunsOn.{RunsOn, from_opening}
 use Rattle.hs_copies.proofs.StandLemmas.{HasLead, stands_lead}
 use Rattle.hs_copies.specs.Lists.{IsFront, Item}
 use Rattle.hs_copies.specs.Machine.{Copies}
@@ -38,13 +37,13 @@ use Rattle.hs_whole_copies.proofs.OpenLemmas.{opens_whole}
 use Rattle.hs_whole_copies.specs.Opening.{MayOpenWhole}
 use Rattle.hs_whole_copies.specs.Whole.{IsShardInStep, IsWholeInStep}
 use Rattle.hs_steady.proofs.PeerLemmas.{good_stage, reach_good}
-use Rattle.hs_steady.proofs.ShowLemmas.{run_shows, stays_along}
+use Rattle.hs_steady.proofs.ShowLemmas.{opened_shows, stays_along}
 use Rattle.hs_steady.proofs.SteadyLemmas.{its_shard, past_down}
-use Rattle.hs_steady.specs.Moments.{IsMomentOf}
+use Rattle.hs_steady.specs.Moments.{IsMomentOf, ShowsOpened}
 
 -- ---- lists
 
-what : Item Entry → Entry
+abbrev what : Item Entry → Entry
 what x = x.what
 
 front_rest : {X : Type 0} (xs ys : List X) → IsFront xs ys → (rest : List X) × (ys ≡ xs ++ rest)
@@ -73,8 +72,7 @@ begins_leads g q lead c s k own good leads =
 
 -- ---- at a moment of a run
 
-module _ (tells : Type 0) (set : Setting) (span : Span) (found : Found) (events : Events) (on : RunsOn tells set span found events) (told : tells) (called : (peer : ℕ) → (seen_at span.disks peer).stands.last ≤ span.before)
-    (may : MayOpenWhole set found) (c : Whole) (moment : ℕ) (at : IsMomentOf set found events span c moment) where
+module _ (set : Setting) (found : Found) (events : Events) (span : Span) (shows : ShowsOpened set found events span) (may : MayOpenWhole set found) (c : Whole) (moment : ℕ) (at : IsMomentOf set found events span c moment) where
   abbrev es : Events
   es = until moment (happened (first_core set found) events)
 
@@ -84,15 +82,15 @@ module _ (tells : Type 0) (set : Setting) (span : Span) (found : Found) (events 
   opens : (first_core set found).ended ≡ None
   opens = going_before (first_core set found) es goes
 
-  shown : LeavesLists (open_whole set found) events (from_opening found on.disks span)
-  shown = run_shows tells set span found events on told called may opens
+  shown : LeavesLists (open_whole set found) events span
+  shown = opened_shows set found events span shows may opens
 
   in_step : (machines : ℕ → Copies Entry) × IsWholeInStep c machines
   in_step =
       let first = opens_whole set found may opens in
       subst (λ x. (machines : ℕ → Copies Entry) × IsWholeInStep x machines) at.state (stays_along (open_whole set found) es first.0 first.1 goes)
 
-  module _ (peer : ℕ) (good : status_of peer c.core ≡ Good) where
+  module _ (peer lead : ℕ) (good : status_of peer c.core ≡ Good) (leads : lead_of (home peer c.core) c.core ≡ Some lead) where
     within : IsPeer c.core.members.shape peer
     within = elim (cases_lt peer (peer_count (shape_of c.core))) [
       | inl low ↦ low
@@ -109,9 +107,9 @@ module _ (tells : Type 0) (set : Setting) (span : Span) (found : Found) (events 
     shard : IsShardInStep (home peer c.core) c (in_step.0 (home peer c.core))
     shard = its_shard c in_step.0 in_step.1 peer within
 
-    pub begins_lead : (lead : ℕ) → lead_of (home peer c.core) c.core ≡ Some lead → (image : Side → List ℕ) → IsLeft (disk_at (stands_of span.left) peer) moment image → (list : Numbered) → list_in image ≡ Some list
+    pub begins_lead : (image : Side → List ℕ) → IsLeft (disk_at (stands_of span.left) peer) moment image → (list : Numbered) → list_in image ≡ Some list
         → IsFrontOf peer list (c.lists lead)
-    begins_lead lead leads image left list read =
+    begins_lead image left list read =
         let fine : GivesFine whole_machine c peer image =
         subst (λ x. GivesFine whole_machine x peer image) at.state
         (shown.moments.fine moment peer at.above at.up_to at.early (subst (λ x. counts x peer ≡ true) (sym at.state) counted) image left) in

@@ -1,28 +1,25 @@
 //! The lists that a store of several copies shows.
-ghost use Rattle.std.specs.Prelude.{◌≡◌, ◌≤◌, ℕ, ⊤, None, OnOk, Result};
-ghost use Rattle.hs_cluster.specs.Disks.{seen_at};
+ghost use Rattle.std.specs.Prelude.{◌≡◌, ℕ, ⊤, None, OnOk, Result};
 ghost use Rattle.hs_cluster.specs.Kept.{LeavesLists, ShowsLists, Span};
-ghost use Rattle.hs_cluster.specs.Opens.{Opens};
+ghost use Rattle.hs_cluster.specs.Opens.{OpensLists};
 ghost use Rattle.hs_cluster.specs.PeerLogs.{KeepsPeers};
-ghost use Rattle.hs_cluster.specs.Running.{Running};
 ghost use Rattle.hs_cluster.specs.declared.fault.ClusterFault.{ClusterFault};
 ghost use Rattle.hs_copies.specs.Machine.{Copies};
 ghost use Rattle.hs_entry.specs.declared.entry.Entry.{Entry};
 ghost use Rattle.hs_events.specs.Course.{steps};
 ghost use Rattle.hs_events.specs.Due.{Events};
-ghost use Rattle.hs_events.specs.Found.{first_core};
+ghost use Rattle.hs_events.specs.Found.{Found, first_core};
 ghost use Rattle.hs_events.specs.Whole.{Whole, open_whole};
 ghost use Rattle.hs_fold.specs.Shards.Setting.{Setting};
 ghost use Rattle.hs_moments.specs.Machine.{runs};
 ghost use Rattle.hs_moments.specs.WholeMachine.{whole_machine};
-ghost use Rattle.hs_taking.specs.Shares.{Span as Taking};
 ghost use Rattle.hs_whole_copies.specs.Opening.{MayOpenWhole};
 ghost use Rattle.hs_whole_copies.specs.Whole.{IsWholeInStep};
 
 /// What a call of a cluster shows of lists (`ShowsLists`) it shows of a store in step that keeps its peers: at each moment
 /// whatever a stop leaves of a disk that counts begins its peer's list, with all that is sealed of it; and behind the call
-/// the store keeps its peers (`span`), and is in step where its core goes on (`goes_on`). So does opening, from the moment at which its core
-/// opens, where no call of a disk was ahead at entry (`opened`).
+/// the store keeps its peers (`span`), and is in step where its core goes on (`goes_on`). So it is from the opening on
+/// (`opened`), of which hs_cluster says that it keeps the peers of whatever has the lists that its shards opened with.
 pub fn a_store_in_step_shows_its_lists()
     ensures span { (c : Whole) (span : Span) (result : Result ⊤ ClusterFault) (events : Events) (machines : ℕ → Copies Entry)
         → IsWholeInStep c machines → c.core ≡ span.old.core → ShowsLists span result events
@@ -32,18 +29,9 @@ pub fn a_store_in_step_shows_its_lists()
     ensures goes_on { (c : Whole) (events : Events) (machines : ℕ → Copies Entry) → IsWholeInStep c machines
         → (steps c.core events).ended ≡ None
         → (new : ℕ → Copies Entry) × IsWholeInStep (runs whole_machine c events) new }
-    ensures opened { (tells : Type 0) (set : Setting) (span : Taking) (cluster : Running)
-        (done : Result ⊤ ClusterFault) (opens : Opens tells set span cluster done) → tells
-        → ((peer : ℕ) → (seen_at span.old peer).stands.last ≤ span.before) → MayOpenWhole set opens.found
-        → (first_core set opens.found).ended ≡ None
-        → LeavesLists (open_whole set opens.found) opens.events (record {
-          before = opens.found.opened;
-          now = span.now;
-          old = opens.begun;
-          new = cluster;
-          disks = opens.disks;
-          left = span.new;
-        })
-        × OnOk done (KeepsPeers (runs whole_machine (open_whole set opens.found) opens.events) cluster.logs span.new
-        span.now) }
+    ensures opened { (set : Setting) (found : Found) (span : Span) (result : Result ⊤ ClusterFault) (events : Events)
+        → MayOpenWhole set found → (first_core set found).ended ≡ None → span.old.core ≡ first_core set found
+        → ((c : Whole) → OpensLists set found c → KeepsPeers c span.old.logs span.disks span.before)
+        → ShowsLists span result events → LeavesLists (open_whole set found) events span
+        × OnOk result (KeepsPeers (runs whole_machine (open_whole set found) events) span.new.logs span.left span.now) }
 {}

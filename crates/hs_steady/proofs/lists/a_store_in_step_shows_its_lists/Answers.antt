@@ -5,5 +5,5 @@ pub returns : goal.returns
 returns c = record {
   span = λ c span result events machines w is shows kept. shows_span c span result events machines w is shows kept;
   goes_on = λ c events machines w on. stays_along c events machines w on;
-  opened = λ tells set span cluster done opens told called may on. opens_showing tells set span cluster done opens told called may on;
+  opened = λ set found span result events may on is keeps shows. opens_showing set found span result events may on is keeps shows;
 }
