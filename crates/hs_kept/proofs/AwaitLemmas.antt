@@ -1,5 +1,5 @@
 -- At a moment of a run that stands, what is pending of images that count is what its lines ask for.
-use Rattle.std.proofs.Common.{◌≡◌, ◌∙◌, ap, sym, subst, refl, ℕ, suc, ◌+◌, ◌*◌, ◌<◌, ◌≤◌, true, List, [], ◌∷◌, ◌++◌, Option, length, take, drop, arith}
+use Rattle.std.proofs.Common.{◌≡◌, ◌∙◌, ap, sym, subst, refl, ℕ, suc, ◌+◌, ◌*◌, ◌<◌, ◌≤◌, true, List, [], ◌∷◌, ◌++◌, Option, Some, length, take, drop, arith}
 use Rattle.std.proofs.lemmas.List.{drop-append-le}
 use Rattle.std.specs.List.{AllByRecursion}
 use Rattle.std.specs.Prelude.{slice_get, unwrap_or}
@@ -63,7 +63,7 @@ chosen_of shards copies lists one count = ap (λ n. chosen_each shards n lists) 
 
 -- ---- images and their lists
 
-list_of : Image → Numbered
+abbrev list_of : Image → Numbered
 list_of image = unwrap_or (list_in image) []
 
 logs_count : (images : List Image) → length (or_blank (image_logs images)) ≡ length images
