@@ -1,13 +1,16 @@
 -- A line of a cluster in its run.
-use Rattle.std.proofs.Common.{◌≡◌, ◌∙◌, ap, sym, subst, ℕ, ◌+◌, ◌*◌, ◌<◌, ◌≤◌, Bool, true, false, List, [], ◌∷◌, Option, Some, None, refl, arith, take, append-nil}
+use Rattle.std.proofs.Common.{◌≡◌, ◌≢◌, ◌⊎◌, inl, inr, ◌∙◌, ap, sym, subst, ℕ, ◌+◌, ◌*◌, ◌<◌, ◌≤◌, Bool, true, false, List, [], ◌∷◌, Option, Some, None, refl, arith, take, append-nil}
+use Rattle.std.proofs.lemmas.Bool.{cases_eq}
 use Rattle.std.specs.Prelude.{⊤, OnOk, Result, Ok, Err, is_ok}
 use Rattle.hs_standing.proofs.AddressedLemmas.{AllAddressed, lines_addressed}
 use Rattle.hs_cluster.specs.Calls.{RunsLine, outcome_by, ran_out}
 use Rattle.hs_cluster.specs.declared.fault.ClusterFault.{ClusterFault}
 use Rattle.hs_cluster.specs.Disks.{DiskSeen}
-use Rattle.hs_cluster.specs.Kept.{Shows}
+use Rattle.hs_cluster.specs.Kept.{AreTold, Shows}
+use Rattle.hs_cluster.specs.PeerLogs.{KeepsPeers}
 use Rattle.hs_cluster.specs.Rooms.{HaveRecordRoom}
 use Rattle.hs_cluster.specs.Running.{Running}
+use Rattle.hs_cluster.specs.Steady.{AreSteady}
 use Rattle.hs_core_words.specs.Looking.{shape_of}
 use Rattle.hs_core_words.specs.State.{Core}
 use Rattle.hs_desk.specs.declared.fault.CoreFault.{CoreFault}
@@ -16,16 +19,15 @@ use Rattle.hs_events.specs.Commands.{AreOfCommand, AreOfLine, LineAt}
 use Rattle.hs_events.specs.Course.{steps}
 use Rattle.hs_events.specs.Due.{Events, MomentsRise, is_walk, next_due}
 use Rattle.hs_settled.specs.Moving.{IsMoving}
-use Rattle.hs_standing.proofs.KnownAlongLemmas.{runs_before}
 use Rattle.hs_standing.proofs.LinesLineLemmas.{Passes, line_passes}
 use Rattle.hs_standing.specs.Script.{AreLines, IsNext, Script, all_events}
 use Rattle.hs_model.specs.declared.command.Command.{Command}
 use Rattle.hs_limits.specs.declared.shape.Shape.{Shape}
 use Rattle.hs_moments.specs.Machine.{runs}
 use Rattle.hs_moments.specs.WholeMachine.{whole_machine}
-use Rattle.hs_measure.proofs.AlongLemmas.{AlongLaws, Comes, LineLaws, goes_on, kept, may, moments, running_of}
+use Rattle.hs_measure.proofs.AlongLemmas.{AlongLaws, Comes, LineLaws, before_events, goes_on, kept, may, moments}
 use Rattle.hs_measure.proofs.RestLemmas.{runs_core}
-use Rattle.hs_measure.specs.Between.{IsInRun, KeepsOn, Rests}
+use Rattle.hs_measure.specs.Between.{HasLogs, IsInRun, KeepsOn, Rests}
 use Rattle.hs_measure.specs.Promised.{IsAtRest, KeepsPromise}
 use Rattle.hs_standing.specs.Run.{MayRun, RunsBefore}
 use Rattle.hs_standing.specs.Standing.{AllMayKeep, judging_of}
@@ -59,8 +61,8 @@ rises_from low from to (e ∷ es) below h = let first = h.0 in (omega (arith, be
 
 -- ---- a line
 
-module _ (lines : LineLaws) (tells : Type 0) (told : tells) (start : Start) (line : ℕ) (asked : Command) (before now : ℕ) (old new : Running) (disks left : List DiskSeen) (result : Result ⊤ ClusterFault)
-    (its : IsInRun start old disks) (next : IsNext start.commands old.core line) (asks : start.commands line ≡ Some asked) (later : old.core.moment ≤ before)
+module _ (lines : LineLaws) (tells : Type 0) (told : tells) (start : Start) (line : ℕ) (asked : Command) (since before now : ℕ) (old new : Running) (disks left : List DiskSeen) (result : Result ⊤ ClusterFault)
+    (its : IsInRun start old disks since) (after : since ≤ before) (next : IsNext start.commands old.core line) (asks : start.commands line ≡ Some asked) (later : old.core.moment ≤ before)
     (r : RunsLine start.set.name line asked before now old new result (Shows tells (record { before = before; now = now; old = old; new = new; disks = disks; left = left }) result)) where
   -- the script of this line alone
   abbrev script : Script
@@ -80,10 +82,10 @@ module _ (lines : LineLaws) (tells : Type 0) (told : tells) (start : Start) (lin
   here P h = subst P (sym its.same) h
 
   turn : IsInTurn start.commands old.core
-  turn = there (λ (x : Core). IsInTurn start.commands x) its.along.reading.stands.whole.turn
+  turn = there (λ (x : Core). IsInTurn start.commands x) its.along.reading.turn
 
   pub old_going : old.core.ended ≡ None
-  old_going = there (λ (x : Core). x.ended ≡ None) its.along.reading.stands.whole.sane.going
+  old_going = there (λ (x : Core). x.ended ≡ None) its.along.reading.whole.going
 
   one_line : AreLines script line old.core (r.events ∷ [])
   one_line = record { going = old_going; events = are }
@@ -102,13 +104,34 @@ module _ (lines : LineLaws) (tells : Type 0) (told : tells) (start : Start) (lin
       subst (λ (es : Events). AllAddressed (judging_of start) es old.core) (append-nil r.events)
       (lines_addressed script start.set.limits (lines.asks (judging_of start)) line old.core (r.events ∷ []) next fresh_all one_line)
 
+  -- what the logs have, the disks show and the reports tell
+  steady : AreSteady its.whole r.events
+  steady = lines.steady its.whole r.events its.along.reading.machines its.along.reading.whole
+
+  later_peers : KeepsPeers its.whole old.logs disks since → KeepsPeers its.whole old.logs disks before
+  later_peers has = record {
+    listed = has.listed;
+    keeps = record { called = λ peer. (let last = has.keeps.called peer in omega (arith, last, after)); fine = has.keeps.fine };
+    headed = has.headed;
+  }
+
+  told_by : (start.set.shape.copies ≡ 1) ⊎ (start.set.shape.copies ≢ 1) → AreTold its.whole r.events
+  told_by (inl one) = r.kept.told told its.whole its.same (its.logs.alone one)
+  told_by (inr more) = ((r.kept.copies told).lists its.whole its.same steady (later_peers (its.logs.several more))).told
+
+  logs_behind : result ≡ Ok tt → HasLogs start.set.shape.copies (runs whole_machine its.whole r.events) new.logs left now
+  logs_behind ok = record {
+    alone = λ one. from_ok result ok (r.kept.reads_on told its.whole its.same (its.logs.alone one));
+    several = λ more. from_ok result ok ((r.kept.copies told).goes_on its.whole its.same steady (later_peers (its.logs.several more)));
+  }
+
   pub comes : Comes start its.whole r.events
   comes = record {
     come = here (λ (x : Core). AllMayCome start.commands x r.events) come;
     fresh = here (λ (x : Core). MayBeginAll start.set.name r.events x) (subst (λ (es : Events). MayBeginAll start.set.name es old.core) (append-nil r.events) fresh_all);
     addressed = here (λ (x : Core). AllAddressed (judging_of start) r.events x) addressed;
     rooms = here (λ (x : Core). HaveRecordRoom x r.events) r.does.rooms;
-    told = r.kept.told told its.whole its.same its.logs;
+    told = told_by (cases_eq start.set.shape.copies 1);
   }
 
   -- ---- behind it
@@ -127,12 +150,12 @@ module _ (lines : LineLaws) (tells : Type 0) (told : tells) (start : Start) (lin
       going : (steps its.whole.core r.events).ended ≡ None
       going = ap (λ (x : Core). x.ended) (sym (new_is fine)) ∙ going_of result new.core r.does.outcome ok
 
-      in_run : IsInRun start new left
+      in_run : IsInRun start new left now
       in_run = record {
         whole = runs whole_machine its.whole r.events;
         same = runs_core its.whole r.events ∙ sym (new_is fine);
         along = goes_on laws start its.whole its.along r.events comes going;
-        logs = from_ok result ok (r.kept.reads_on told its.whole its.same its.logs);
+        logs = logs_behind ok;
       }
 
       passes : Passes start.commands at
@@ -141,7 +164,7 @@ module _ (lines : LineLaws) (tells : Type 0) (told : tells) (start : Start) (lin
       next_line : IsNext start.commands new.core (line + 1)
       next_line = subst (λ (x : Core). IsNext start.commands x (line + 1)) (sym (r.does.core fine)) (passes.next (ap (λ (x : Result ⊤ ClusterFault). is_ok x) ok) old_going)
 
-    pub keeps : KeepsOn start line old.core r.events result new left
+    pub keeps : KeepsOn start line old.core r.events result new left now
     keeps = record {
       moments = λ n. there (λ (x : Core). KeepsPromise start (steps x (take n r.events))) (moments laws start its.whole its.along r.events comes n);
       left = λ fine. subst (λ (x : Core). KeepsPromise start x) (sym (new_is fine)) (kept laws start its.whole its.along r.events comes);
@@ -155,12 +178,12 @@ module _ (lines : LineLaws) (tells : Type 0) (told : tells) (start : Start) (lin
     module _ (settles : (start : Start) (core : Core) (line : ℕ) (events : Events) → RunsBefore start core events → IsMoving start.set.name core → 2 * (shape_of core).shards < core.pool.limit
         → AllMayKeep start (MayRun start) core events → (steps core events).ended ≡ None → is_walk next_due true line core events ≡ true → IsAtRest start (steps core events)) where
       roomy : 2 * start.set.shape.shards < start.set.limits.pool → 2 * (shape_of its.whole.core).shards < its.whole.core.pool.limit
-      roomy room = let limit = its.along.pool in let shards = ap (λ (z : Shape). z.shards) its.along.reading.stands.whole.shape in omega (arith, room, limit, shards)
+      roomy room = let limit = its.along.pool in let shards = ap (λ (z : Shape). z.shards) its.along.reading.shape in omega (arith, room, limit, shards)
 
       pub rests : Rests start asked result new.core
       rests is room = on_ok result (λ ok.
           subst (λ (x : Core). IsAtRest start x) (sym (new_is (fine ok)))
-          (settles start its.whole.core line r.events (runs_before start its.whole (running_of start its.whole its.along.reading) r.events) its.along.moving (roomy room) (may laws start its.whole its.along r.events comes) (going ok) (walks ok)))
+          (settles start its.whole.core line r.events (before_events start its.whole its.along.reading its.along.few r.events) its.along.moving (roomy room) (may laws start its.whole its.along r.events comes) (going ok) (walks ok)))
         where
           walks : result ≡ Ok tt → is_walk next_due true line its.whole.core r.events ≡ true
           walks ok =

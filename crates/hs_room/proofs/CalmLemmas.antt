@@ -135,9 +135,13 @@ module _ (start : Start) (core : Core) where
     all_stand : AllByRecursion Stands (told_of core)
     all_stand = all_append Stands core.journal core.refused (stand core.journal its.noted.journal) (stand core.refused its.noted.refused)
 
+    -- an entry of a line is of one up to the last
+    pub line_within : (i n : ℕ) → IsOfLine (told_of core) i n → (1 ≤ n) × (n ≤ core.progress.event_line)
+    line_within i n of = line_is of.entry n of.line (all_at Stands (told_of core) i of.entry all_stand of.at)
+
     within : (i n : ℕ) → IsOfLine (told_of core) i n → (1 ≤ n) × (n < 1 + length (range_with_len 1 last))
     within i n of =
-        let is : (1 ≤ n) × (n ≤ last) = line_is of.entry n of.line (all_at Stands (told_of core) i of.entry all_stand of.at) in
+        let is : (1 ≤ n) × (n ≤ last) = line_within i n of in
         let long : length (range_with_len 1 last) ≡ last = length-range_with_len 1 last in
         (is.0, (let low : n ≤ last = is.1 in omega (arith, low, long)))
 
@@ -164,6 +168,10 @@ module _ (start : Start) (core : Core) where
       deletions = lines_most S (range_with_len 1 last) (told_of core) within keeps.answers.ordered.once is_deletion (λ (line : ℕ). asks_delete (start.commands line)) (λ i line at is.
           subst (λ k. asks_delete (start.commands k) ≡ true) (range_at 1 last i line at) (deletion_asked (start.commands (1 + i)) is))
 
+      -- of so many lines' entries
+      pub most_by : (lines : ℕ) → many (is_of_line (λ o. true) S) (told_of core) ≤ lines → length (told_of core) ≤ lines + (2 * start.set.shape.shards + 1) * (deletes_up_to start.commands last + 2) + (peer_count start.set.shape + spare)
+      most_by lines heard = calm_most S start.entry last lines (deletes_up_to start.commands last) (peer_count start.set.shape + spare) caps ran valid shards calm heard deletions few sum
+
       pub has_room : HasRoom start spare core
       has_room = record {
         most = most;
@@ -177,7 +185,7 @@ module _ (start : Start) (core : Core) where
         where
           most : length (told_of core) ≤ entries_most start.commands start.set.shape last + spare
           most =
-              let all = calm_most S start.entry last last (deletes_up_to start.commands last) (peer_count start.set.shape + spare) caps ran valid shards calm of_lines deletions few sum in
+              let all = most_by last of_lines in
               omega (arith, all)
 
 -- ---- behind each front of events
@@ -225,3 +233,16 @@ module _ (laws : RoomLaws) (start : Start) (found : Found) (events : Events) (b 
       has_room start (steps (first_core start.set found) (take n events)) (noting_at n) (laws.keeps start found events b may n)
       (laws.led start found (take n events) b (may_front start events (first_core start.set found) may n)) (caps n) (starts_in (first_core start.set found) (take n events)) (few_at n) (sum_at n)
       (valid start found b laws.memory) (shards_long start found b.entry)
+
+  -- of all events, where so many of the lines have an entry
+  pub most_of : (lines : ℕ) → many (is_of_line (λ o. true) (record { set = start.set; commands = start.commands })) (told_of (steps (first_core start.set found) (take (length events) events))) ≤ lines
+      → length (told_of (steps (first_core start.set found) (take (length events) events)))
+      ≤ lines + (2 * start.set.shape.shards + 1) * (deletes_up_to start.commands (steps (first_core start.set found) (take (length events) events)).progress.event_line + 2)
+      + (peer_count start.set.shape + starts_in (first_core start.set found) (take (length events) events))
+  most_of lines heard =
+      most_by start (steps (first_core start.set found) (take (length events) events)) (noting_at (length events)) (laws.keeps start found events b may (length events))
+      (laws.led start found (take (length events) events) b (may_front start events (first_core start.set found) may (length events))) (caps (length events)) (starts_in (first_core start.set found) (take (length events) events))
+      (few_at (length events)) (sum_at (length events)) (valid start found b laws.memory) (shards_long start found b.entry) lines heard
+
+  pub noted_last : Noting (mute start.commands) start.set.shape start.set.limits (steps (first_core start.set found) (take (length events) events))
+  noted_last = noting_at (length events)

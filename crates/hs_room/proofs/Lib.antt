@@ -6,4 +6,6 @@ pub mod NotedLemmas
 pub mod NotesLemmas
 pub mod OpenedLemmas
 pub mod RiseLemmas
+pub mod RunLemmas
 pub mod SoFarLemmas
+pub mod StartedLemmas

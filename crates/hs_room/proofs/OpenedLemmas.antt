@@ -1,49 +1,53 @@
 -- A cluster that opens over sound lists: its core is that of a run so far.
-use Rattle.std.proofs.Common.{◌≡◌, ◌∙◌, inl, inr, ap, sym, subst, ℕ, ◌≤◌, not, true, Option, Some, None, arith}
+use Rattle.std.proofs.Common.{◌≡◌, ◌⊎◌, ◌∙◌, inl, inr, ap, sym, subst, ℕ, ◌+◌, ◌≤◌, ◌&&◌, not, cond, Bool, true, false, [], ◌∷◌, Option, Some, None, refl, arith, is_none, is_some}
+use Rattle.std.proofs.lemmas.Bool.{cases_eq}
 use Rattle.std.specs.Prelude.{⊤, Result}
+use Rattle.hs_clauses.specs.Run.{ReadsInStep}
 use Rattle.hs_cluster.specs.Calls.{ran_out}
 use Rattle.hs_cluster.specs.Counts.{AreAllCounted}
 use Rattle.hs_cluster.specs.declared.fault.ClusterFault.{ClusterFault}
 use Rattle.hs_cluster.specs.Kept.{AreStored}
 use Rattle.hs_cluster.specs.Opens.{Opens}
 use Rattle.hs_cluster.specs.Running.{Running}
+use Rattle.hs_core_words.specs.declared.event.Event.{Event}
+use Rattle.hs_core_words.specs.declared.event.Event.TheVariants as event
 use Rattle.hs_core_words.specs.State.{Core}
+use Rattle.hs_core_words.specs.Step.{step}
 use Rattle.hs_desk.specs.declared.fault.CoreFault.TheVariants as fault
 use Rattle.hs_events.specs.Course.{steps}
+use Rattle.hs_events.specs.Due.{Events}
 use Rattle.hs_events.specs.Found.{Found, first_core}
 use Rattle.hs_events.specs.Reports.{failures}
 use Rattle.hs_events.specs.Whole.{open_whole}
 use Rattle.hs_fold.specs.Shards.Setting.{Setting}
 use Rattle.hs_journal.specs.Events.{client_op}
-use Rattle.hs_limits.specs.Shape.{IsShape}
-use Rattle.hs_measure.proofs.AlongLemmas.{Comes}
-use Rattle.hs_measure.proofs.OpenedLemmas.{OpeningLaws, come as opening_come, comes as opening_comes, lists, no_line, opens as run_opens}
+use Rattle.hs_limits.specs.Shape.{IsShape, peer_of}
+use Rattle.hs_measure.proofs.AlongLemmas.{Comes, may_come}
+use Rattle.hs_measure.proofs.OpenedLemmas.{OpeningLaws, begins as run_begins, come as opening_come, comes as opening_comes, no_line, reading as opens_reading}
 use Rattle.hs_measure.specs.Between.{start_of}
 use Rattle.hs_model.specs.declared.command.Command.{Command}
 use Rattle.hs_model.specs.declared.command.Command.TheVariants as command
-use Rattle.hs_ports.specs.Fault.{HasRisen}
-use Rattle.hs_room.proofs.CallLemmas.{CallLaws, call_ends, call_moments, call_so_far, lost_line, may_keep, not_full, rose_or}
+use Rattle.hs_ports.specs.Objects.{RoseBy}
+use Rattle.hs_room.proofs.CallLemmas.{CallLaws, by_report, call_alone, call_ends, call_moments, call_so_far, lost_line, not_full}
+use Rattle.hs_room.proofs.LostLemmas.{FellIn}
 use Rattle.hs_room.proofs.SoFarLemmas.{first_so_far}
-use Rattle.hs_room.specs.Room.{EndsWell, IsSoFar, KeepsRoom, LossCause, entries_most}
-use Rattle.hs_settled.proofs.AskLemmas.{AllIts, opening_its}
+use Rattle.hs_room.specs.Room.{Call, EndsWell, IsSoFar, KeepsRoom, LossCause, entries_most, starts_in, starts_peer}
+use Rattle.hs_settled.proofs.AskLemmas.{AllIts, Its, opening_its}
 use Rattle.hs_settled.proofs.CausesRunLemmas.{mute}
 use Rattle.hs_sound.specs.Stay.{AreSoundAlong}
 use Rattle.hs_standing.specs.Held.{GivesAddresses}
 use Rattle.hs_standing.specs.Lists.{whole_from}
 use Rattle.hs_standing.specs.Opening.{opened_lists}
-use Rattle.hs_standing.specs.Run.{MayRun, RunOpens}
+use Rattle.hs_standing.proofs.FirstRoomLemmas.{first_room}
+use Rattle.hs_standing.specs.Run.{MayRun, RunBegins}
 use Rattle.hs_standing.specs.Standing.{AllMayKeep}
 use Rattle.hs_standing.specs.Start.{Start}
 use Rattle.hs_taking.specs.Disks.{seen_at}
 use Rattle.hs_taking.specs.Shares.{Span}
 use Rattle.hs_told.specs.InTurn.{AllMayCome}
 
--- a count that stood below another rose where that one did
-risen_below : (low high now : ℕ) → low ≤ high → HasRisen high now → HasRisen low now
-risen_below low high now up rose = omega (arith, up, rose)
-
 module _ (opening : OpeningLaws) (laws : CallLaws) (tells : Type 0) (told : tells) (set : Setting) (commands : ℕ → Option Command) (span : Span) (cluster : Running) (done : Result ⊤ ClusterFault)
-    (shape : IsShape set.shape) (one : set.shape.copies ≡ 1) (names : GivesAddresses set.name) (nobody : client_op (commands 0) ≡ None) (o : Opens tells set span cluster done) (first_going : (first_core set o.found).ended ≡ None)
+    (shape : IsShape set.shape) (calm : (set.shape.copies ≡ 1 → ⊥) → (peer : ℕ) → (seen_at span.old peer).stands.last ≤ span.before) (names : GivesAddresses set.name) (nobody : client_op (commands 0) ≡ None) (o : Opens tells set span cluster done) (first_going : (first_core set o.found).ended ≡ None)
     (sound : AreSoundAlong set (whole_from (opened_lists set o.found) 0 set.shape.shards)) where
   abbrev found : Found
   found = o.found
@@ -54,25 +58,28 @@ module _ (opening : OpeningLaws) (laws : CallLaws) (tells : Type 0) (told : tell
   abbrev start : Start
   start = start_of set commands o.found
 
-  opens : RunOpens (start_of set commands o.found) o.found
-  opens = run_opens opening tells told set commands span cluster done shape one names nobody o first_going sound
+  begins : RunBegins (start_of set commands o.found) o.found
+  begins = run_begins opening tells told set commands span cluster done shape calm names nobody o first_going sound
+
+  reading : ReadsInStep (start_of set commands o.found) (open_whole set o.found)
+  reading = opens_reading opening tells told set commands span cluster done shape calm names nobody o first_going sound
 
   -- ---- the events of opening
 
   come : AllMayCome commands (first_core set o.found) o.events
-  come = opening_come opening tells told set commands span cluster done shape one names nobody o first_going sound
+  come = opening_come opening tells told set commands span cluster done shape calm names nobody o first_going sound
 
   comes : Comes (start_of set commands o.found) (open_whole set o.found) o.events
-  comes = opening_comes opening tells told set commands span cluster done shape one names nobody o first_going sound
+  comes = opening_comes opening tells told set commands span cluster done shape calm names nobody o first_going sound
 
   may : AllMayKeep (start_of set commands o.found) (MayRun (start_of set commands o.found)) (first_core set o.found) o.events
-  may = may_keep laws start (open_whole set found) o.events (opening.reads start found opens) comes
+  may = may_come laws.tell start (open_whole set found) reading (first_room set found opening.memory sound) o.events comes
 
-  so : IsSoFar (start_of set commands o.found) (first_core set o.found)
-  so = first_so_far start found opens
+  so : IsSoFar (start_of set commands o.found) 0 (first_core set o.found)
+  so = first_so_far start found begins
 
   low : (first_core set o.found).progress.event_line ≤ 0
-  low = let e = no_line opening tells told set commands span cluster done shape one names nobody o first_going sound in omega (arith, e)
+  low = let e = no_line opening tells told set commands span cluster done shape calm names nobody o first_going sound in omega (arith, e)
 
   its_all : AllIts commands 0 (first_core set o.found) o.events
   its_all = opening_its commands (not (ran_out done)) first o.events o.due
@@ -80,27 +87,81 @@ module _ (opening : OpeningLaws) (laws : CallLaws) (tells : Type 0) (told : tell
   mute_its : AllIts (mute commands) 0 (first_core set o.found) o.events
   mute_its = opening_its (mute commands) (not (ran_out done)) first o.events o.due
 
-  pub opened_room : KeepsRoom (start_of set commands o.found) (first_core set o.found) o.events done cluster
+  -- nobody is started
+  none_starts : (es : Events) (c : Core) → AllIts (mute commands) 0 c es → starts_in c es ≡ 0
+  none_starts [] c its = refl
+  none_starts (e ∷ es) c its =
+      let here : cond (is_none c.ended && is_some (starts_peer c e.0)) 1 0 ≡ 0 = by_event e.0 its.0 in
+      let rest : starts_in (step e.0 e.1 c) es ≡ 0 = none_starts es (step e.0 e.1 c) its.1 in
+      omega (arith, here, rest)
+    where
+      never : (b : Bool) → cond (b && false) 1 0 ≡ 0
+      never true = refl
+      never false = refl
+
+      none_of : (line : ℕ) → (line ≡ 0) ⊎ (line ≡ 0) → line ≡ 0
+      none_of line (inl is) = is
+      none_of line (inr is) = is
+
+      mute_line : (line peer : ℕ) → (line ≡ 0) ⊎ (line ≡ 0) → mute commands line ≡ Some (command.Start peer) → ⊥
+      mute_line line peer is asks = let zero_line : line ≡ 0 = none_of line is in let both : None ≡ Some (command.Start peer) = ap (mute commands) (sym zero_line) ∙ asks in cc both
+
+      by_event : (x : Event) → Its (mute commands) 0 c x → cond (is_none c.ended && is_some (starts_peer c x)) 1 0 ≡ 0
+      by_event (event.Line line o) i = never (is_none c.ended)
+      by_event (event.Report peer d) i = never (is_none c.ended)
+      by_event (event.Turn line peer) i = never (is_none c.ended)
+      by_event (event.Deliver line number) i = never (is_none c.ended)
+      by_event (event.Lose line number) i = never (is_none c.ended)
+      by_event (event.Repeat line number) i = never (is_none c.ended)
+      by_event (event.Nudge line peer) i = never (is_none c.ended)
+      by_event (event.Fail line peer) i = never (is_none c.ended)
+      by_event (event.Start line peer) i = absurd (mute_line line peer i.of i.asks)
+
+  pub opened_room : KeepsRoom (start_of set commands o.found) 0 (first_core set o.found) o.events done cluster
   opened_room = record {
-    moments = call_moments laws start 0 first o.events so first_going low may come its_all mute_its;
-    so_far = λ fine. subst (λ (x : Core). IsSoFar start x) (sym (o.core fine)) (call_so_far laws start 0 first o.events so first_going low may come its_all mute_its);
+    moments = call_moments laws start 0 0 first o.events so first_going low may come its_all mute_its;
+    so_far = λ fine. subst (λ (x : Core). IsSoFar start (0 + starts_in first o.events) x) (sym (o.core fine)) (call_so_far laws start 0 0 first o.events so first_going low may come its_all mute_its);
+    alone = call_alone laws start 0 0 first o.events so first_going low may come its_all mute_its;
   }
 
   -- ---- how it ends
 
+  abbrev call : Call
+  call = record { asked = None; core = first_core set o.found; events = o.events; old = span.old; new = span.new }
+
   stores : AreStored (open_whole set o.found) o.events
-  stores = laws.stored (open_whole set found) o.events (opening.reads start found opens).stands.whole.sane (laws.numbered set found (lists opening tells told set commands span cluster done shape one names nobody o first_going sound))
+  stores = laws.stored (open_whole set found) reading.machines o.events reading.whole (laws.numbered set found begins.soundly.lists)
 
-  counted : AreAllCounted (first_core set o.found) o.events o.disks span.new
-  counted = o.read one told first_going stores
+  counted : set.shape.copies ≡ 1 → AreAllCounted (first_core set o.found) o.events o.disks span.new
+  counted one = o.read one told first_going stores
 
-  lost : (g : ℕ) → (steps (first_core set o.found) o.events).ended ≡ Some (fault.ShardLost g) → LossCause None span.old span.new g
-  lost g over = elim (rose_or (seen_at o.disks g).faults (seen_at span.new g).faults (failures true g first o.events) (counted g)) [
-    | inl none ↦ inl (lost_line laws start 0 first o.events so first_going low may come its_all mute_its g none over)
-    | inr rose ↦ inr (risen_below (seen_at span.old g).faults (seen_at o.disks g).faults (seen_at span.new g).faults (o.falls g) rose)
-  ]
+  rose_below : (n low high now : ℕ) → low ≤ high → RoseBy n high now → RoseBy n low now
+  rose_below n low high now up rose = omega (arith, up, rose)
 
-  pub opened_ends : entries_most commands set.shape 0 ≤ set.limits.ops → EndsWell None span.old span.new done
-  opened_ends fits = call_ends None span.old span.new done cluster.core o.outcome
-      (λ fine full. not_full laws start 0 first o.events so first_going low may come its_all mute_its fits (ap (λ (x : Core). x.ended) (sym (o.core fine)) ∙ full))
+  lost : (g : ℕ) → (steps (first_core set o.found) o.events).ended ≡ Some (fault.ShardLost g) → LossCause set.shape (record { asked = None; core = first_core set o.found; events = o.events; old = span.old; new = span.new }) g
+  lost g over = record {
+    copy = fell.copy;
+    less = fell.less;
+    why = elim fell.why [
+      | inl asks ↦ absurd (no_line_asks asks)
+      | inr fails ↦
+          by_report set.shape.copies p call (cases_eq set.shape.copies 1)
+          (λ one. rose_below (failures true p first o.events) (seen_at span.old p).faults (seen_at o.disks p).faults (seen_at span.new p).faults (o.falls p) (counted one p))
+          (rose_below (failures false p first o.events) (seen_at span.old p).faults (seen_at o.disks p).faults (seen_at span.new p).faults (o.falls p) (o.counted.failed p)) fails
+    ];
+  }
+    where
+      fell : FellIn (mute commands) set.shape set.limits refl 0 g (first_core set o.found) o.events
+      fell = lost_line laws start 0 0 first o.events so first_going low may come its_all mute_its g over
+
+      abbrev p : ℕ
+      p = peer_of set.shape g fell.copy
+
+      no_line_asks : mute commands 0 ≡ Some (command.Fail p) → ⊥
+      no_line_asks asks = let both : None ≡ Some (command.Fail p) = asks in cc both
+
+  pub opened_ends : entries_most commands set.shape 0 ≤ set.limits.ops
+      → EndsWell set.shape (record { asked = None; core = first_core set o.found; events = o.events; old = span.old; new = span.new }) done
+  opened_ends fits = call_ends set.shape call done cluster.core o.outcome
+      (λ fine full. not_full laws start 0 0 first o.events so first_going low may come its_all mute_its 0 (inr (let none = none_starts o.events first mute_its in omega (arith, none))) (omega (arith, fits)) (ap (λ (x : Core). x.ended) (sym (o.core fine)) ∙ full))
       (λ fine g over. lost g (ap (λ (x : Core). x.ended) (sym (o.core fine)) ∙ over))

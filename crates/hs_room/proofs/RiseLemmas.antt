@@ -1,5 +1,5 @@
 -- Later lines have room for no fewer entries.
-use Rattle.std.proofs.Common.{◌≡◌, ℕ, zero, suc, ◌+◌, ◌*◌, ◌≤◌, Bool, Option, arith, count_by}
+use Rattle.std.proofs.Common.{◌≡◌, ℕ, zero, suc, ◌+◌, ◌-◌, ◌*◌, ◌≤◌, Bool, Option, arith, count_by}
 use Rattle.std.specs.List.{range_with_len}
 use Rattle.hs_limits.specs.declared.shape.Shape.{Shape}
 use Rattle.hs_model.specs.declared.command.Command.{Command}
@@ -23,6 +23,18 @@ deletes_rise commands low high up =
 
 pub most_rises : (commands : ℕ → Option Command) (shape : Shape) (low high : ℕ) → low ≤ high → entries_most commands shape low ≤ entries_most commands shape high
 most_rises commands shape low high up =
+    let n : ℕ = 2 * shape.shards + 1 in
+    let a : ℕ = deletes_up_to commands low + 2 in
+    let b : ℕ = deletes_up_to commands high + 2 in
+    let fewer : deletes_up_to commands low ≤ deletes_up_to commands high = deletes_rise commands low high up in
+    let wider : times n a ≤ times n b = times_le n a b (omega (arith, fewer)) in
+    let one : times n a ≡ n * a = times-is n a in
+    let two : times n b ≡ n * b = times-is n b in
+    omega (arith, up, wider, one, two)
+
+-- and by one a line more
+pub most_more : (commands : ℕ → Option Command) (shape : Shape) (low high : ℕ) → low ≤ high → entries_most commands shape low + (high - low) ≤ entries_most commands shape high
+most_more commands shape low high up =
     let n : ℕ = 2 * shape.shards + 1 in
     let a : ℕ = deletes_up_to commands low + 2 in
     let b : ℕ = deletes_up_to commands high + 2 in

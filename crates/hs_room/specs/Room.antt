@@ -1,7 +1,7 @@
 -- How many entries a journal has at most, by the lines that came; and how a call of a cluster ends whose journal has room.
 use Rattle.std.specs.List.{range_with_len}
 use Rattle.std.specs.Option.{option_map_or}
-use Rattle.std.specs.Prelude.{◌≡◌, ◌⊎◌, ◌≤◌, ℕ, ◌+◌, ◌*◌, ◌==◌, ◌&&◌, ⊤, Bool, true, false, cond, List, [], ◌∷◌, Option, Some, None, Result, Ok, Err, count_by, if◌then◌else◌, is_none, is_some, length, take}
+use Rattle.std.specs.Prelude.{◌≡◌, ◌<◌, ◌≤◌, ℕ, ◌+◌, ◌*◌, ◌==◌, ◌&&◌, ⊤, Bool, true, false, cond, List, [], ◌∷◌, Option, Some, None, Result, Ok, Err, count_by, if◌then◌else◌, is_none, is_some, length, take}
 use Rattle.hs_cluster.specs.Calls.{ran_out}
 use Rattle.hs_cluster.specs.declared.fault.ClusterFault.{ClusterFault}
 use Rattle.hs_cluster.specs.declared.fault.ClusterFault.TheVariants as cluster
@@ -16,15 +16,17 @@ use Rattle.hs_desk.specs.declared.fault.CoreFault.TheVariants as fault
 use Rattle.hs_events.specs.Course.{steps}
 use Rattle.hs_events.specs.Due.{Events}
 use Rattle.hs_events.specs.Found.{Found, first_core}
+use Rattle.hs_events.specs.Reports.{failures}
 use Rattle.hs_events.specs.Taken.{peer_count}
 use Rattle.hs_limits.specs.declared.shape.Shape.{Shape}
+use Rattle.hs_limits.specs.Shape.{peer_of}
 use Rattle.hs_model.specs.declared.command.Command.{Command}
 use Rattle.hs_model.specs.declared.command.Command.TheVariants as command
 use Rattle.hs_model.specs.declared.op.Op.TheVariants as op
 use Rattle.hs_model.specs.Refusals.{first}
 use Rattle.hs_ports.specs.Fault.{HasRisen}
 use Rattle.hs_settled.specs.Noted.{AllAreOwn}
-use Rattle.hs_standing.specs.Run.{MayRun, RunOpens}
+use Rattle.hs_standing.specs.Run.{MayRun, RunBegins}
 use Rattle.hs_standing.specs.Standing.{AllMayKeep}
 use Rattle.hs_standing.specs.Start.{Start}
 use Rattle.hs_told.specs.InTurn.{told_of}
@@ -65,30 +67,48 @@ pub record HasRoom (start : Start) (more : ℕ) (core : Core) : Type 0 where
   pub most : length (told_of core) ≤ entries_most start.commands start.set.shape core.progress.event_line + more
   pub room : entries_most start.commands start.set.shape core.progress.event_line + more ≤ start.set.limits.ops → core.ended ≡ Some fault.OpsFull → ⊥
 
--- it is that of a run so far: from the opening of a store over sound lists on, by events that came and are of their lines
-pub record IsSoFar (start : Start) (core : Core) : Type 0 where
+-- it is that of a run so far, in which so many `start` lines were not refused: from the opening of a store over sound lists on, by events that came and are of their lines
+pub record IsSoFar (start : Start) (starts : ℕ) (core : Core) : Type 0 where
   pub found : Found
   pub events : Events
-  pub opens : RunOpens start found
+  pub opens : RunBegins start found
   pub may : AllMayKeep start (MayRun start) (first_core start.set found) events
   pub own : AllAreOwn start.commands (first_core start.set found) events
   pub gives : steps (first_core start.set found) events ≡ core
+  pub starts_are : starts_in (first_core start.set found) events ≡ starts
 
 -- ---- a call of a cluster
 
--- the events of a call, from a core on: behind each front of them the journal has room, and the core that the call leaves is that of the run so far, but where memory ran out
-pub record KeepsRoom (start : Start) (old : Core) (events : Events) (result : Result ⊤ ClusterFault) (new : Running) : Type 0 where
-  pub moments : (n : ℕ) → HasRoom start 0 (steps old (take n events))
-  pub so_far : ran_out result ≡ false → IsSoFar start new.core
+-- the events of a call, from a core on: behind each front of them the journal has room, and the core that the call leaves is that of the run so far, but where memory ran out; with one copy a shard nobody is started
+pub record KeepsRoom (start : Start) (starts : ℕ) (old : Core) (events : Events) (result : Result ⊤ ClusterFault) (new : Running) : Type 0 where
+  pub moments : (n : ℕ) → HasRoom start (starts + starts_in old (take n events)) (steps old (take n events))
+  pub so_far : ran_out result ≡ false → IsSoFar start (starts + starts_in old events) new.core
+  pub alone : start.set.shape.copies ≡ 1 → (n : ℕ) → starts + starts_in old (take n events) ≡ 0
 
--- why it lost a shard: its line is to fail the one peer, or the count of failed calls of that peer's disk rose; opening is of no line
-abbrev pub LossCause : Option Command → List DiskSeen → List DiskSeen → ℕ → Type 0
-LossCause asked old new shard = (asked ≡ Some (command.Fail shard)) ⊎ HasRisen (seen_at old shard).faults (seen_at new shard).faults
+-- a call: what was asked, which is of no line in opening, the core before it and its events, and the disks before and behind
+pub record Call : Type 0 where
+  pub asked : Option Command
+  pub core : Core
+  pub events : Events
+  pub old : List DiskSeen
+  pub new : List DiskSeen
+
+-- why a call lost a peer: its line is to fail it, or the count of failed calls of its disk rose; or, with several copies, a job that only read its disk reported that it failed
+pub data LossBy (copies : ℕ) (call : Call) (peer : ℕ) : Type 0 where
+  ByLine : call.asked ≡ Some (command.Fail peer) → LossBy copies call peer
+  ByCount : HasRisen (seen_at call.old peer).faults (seen_at call.new peer).faults → LossBy copies call peer
+  ByReading : (copies ≡ 1 → ⊥) → 1 ≤ failures true peer call.core call.events → LossBy copies call peer
+
+-- why it lost a shard: so it lost one of its peers
+pub record LossCause (shape : Shape) (call : Call) (shard : ℕ) : Type 0 where
+  pub copy : ℕ
+  pub less : copy < shape.copies
+  pub why : LossBy shape.copies call (peer_of shape shard copy)
 
 -- it goes on, or memory ran out, or a shard is lost with its cause
-abbrev pub EndsWell : Option Command → List DiskSeen → List DiskSeen → Result ⊤ ClusterFault → Type 0
-EndsWell asked old new (Ok x) = ⊤
-EndsWell asked old new (Err (cluster.WrongShape peer found)) = ⊥
-EndsWell asked old new (Err (cluster.ShardLost shard)) = LossCause asked old new shard
-EndsWell asked old new (Err cluster.OpsFull) = ⊥
-EndsWell asked old new (Err cluster.NoMemory) = ⊤
+abbrev pub EndsWell : Shape → Call → Result ⊤ ClusterFault → Type 0
+EndsWell shape call (Ok x) = ⊤
+EndsWell shape call (Err (cluster.WrongShape peer found)) = ⊥
+EndsWell shape call (Err (cluster.ShardLost shard)) = LossCause shape call shard
+EndsWell shape call (Err cluster.OpsFull) = ⊥
+EndsWell shape call (Err cluster.NoMemory) = ⊤

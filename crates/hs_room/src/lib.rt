@@ -4,7 +4,9 @@
 mod journal;
 mod line;
 mod opened;
+mod run;
 
 pub use journal::a_journal_has_room;
 pub use line::each_line_has_room;
 pub use opened::a_cluster_opens_with_room;
+pub use run::a_run_with_room_is_not_full;

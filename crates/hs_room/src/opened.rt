@@ -14,6 +14,7 @@ ghost use Rattle.hs_sound.specs.Stay.{AreSoundAlong};
 ghost use Rattle.hs_standing.specs.Held.{GivesAddresses};
 ghost use Rattle.hs_standing.specs.Lists.{whole_from};
 ghost use Rattle.hs_standing.specs.Opening.{opened_lists};
+ghost use Rattle.hs_taking.specs.Disks.{seen_at};
 ghost use Rattle.hs_taking.specs.Shares.{Span};
 
 use crate::journal::a_journal_has_room;
@@ -23,33 +24,44 @@ use hs_clauses::{
 use hs_memory::catalogues_in_memory_are_folds;
 use hs_ports::Disk;
 use hs_standing::{a_scripts_events_may_come, a_scripts_lines_are_new};
+use hs_steady::{a_store_goes_on_steadily, what_opens_has_its_lists};
 
-/// What `Cluster::open` promises of a store of one copy a shard whose disks tell (`Opens`), where the
-/// lists that it took are sound and its core goes on from its opening: behind each front of the events of
-/// opening the journal has at most so many entries as are room for before any line, and the core that
-/// it leaves is that of a run so far, of any commands (`keeps`). Where the journal's limit has that room the
-/// cluster goes on, or memory ran out, or a shard is lost, whose disk's count of failed calls rose (`ends`).
+/// What `Cluster::open` promises of a store whose disks tell (`Opens`), where the lists that it took are sound and
+/// its core goes on from its opening: behind each front of the events of opening the journal has at most so many
+/// entries as are room for before any line, and the core that it leaves is that of a run so far, of any commands
+/// (`keeps`). Where the journal's limit has that room the cluster goes on, or memory ran out, or a shard is lost with
+/// its cause (`ends`). Where a shard has several copies no call of a disk is to be ahead at entry.
 pub fn a_cluster_opens_with_room<D: Disk>()
     ensures keeps { (set : Setting) (commands : ℕ → Option Command) (span : Span)
         (cluster : Running) (done : Result ⊤ ClusterFault)
-        → D.tells → IsShape set.shape → set.shape.copies ≡ 1 → GivesAddresses set.name
+        → D.tells → IsShape set.shape
+        → ((set.shape.copies ≡ 1 → ⊥) → (peer : ℕ) → (seen_at span.old peer).stands.last ≤ span.before)
+        → GivesAddresses set.name
         → client_op (commands 0) ≡ None
         → (opens : Opens D.tells set span cluster done)
         → (first_core set opens.found).ended ≡ None
         → AreSoundAlong set
         (whole_from (opened_lists set opens.found) 0 set.shape.shards) →
-        KeepsRoom (start_of set commands opens.found) (first_core set opens.found)
+        KeepsRoom (start_of set commands opens.found) 0 (first_core set opens.found)
         opens.events done cluster }
     ensures ends { (set : Setting) (commands : ℕ → Option Command) (span : Span)
         (cluster : Running) (done : Result ⊤ ClusterFault)
-        → D.tells → IsShape set.shape → set.shape.copies ≡ 1 → GivesAddresses set.name
+        → D.tells → IsShape set.shape
+        → ((set.shape.copies ≡ 1 → ⊥) → (peer : ℕ) → (seen_at span.old peer).stands.last ≤ span.before)
+        → GivesAddresses set.name
         → client_op (commands 0) ≡ None
         → (opens : Opens D.tells set span cluster done)
         → (first_core set opens.found).ended ≡ None
         → AreSoundAlong set
         (whole_from (opened_lists set opens.found) 0 set.shape.shards)
         → entries_most commands set.shape 0 ≤ set.limits.ops →
-        EndsWell None span.old span.new done }
+        EndsWell set.shape (record {
+          asked = None;
+          core = first_core set opens.found;
+          events = opens.events;
+          old = span.old;
+          new = span.new;
+        }) done }
 {
     a_journal_has_room();
     each_report_tells_its_block();
@@ -59,4 +71,6 @@ pub fn a_cluster_opens_with_room<D: Disk>()
     catalogues_in_memory_are_folds();
     a_scripts_events_may_come();
     a_scripts_lines_are_new();
+    a_store_goes_on_steadily();
+    what_opens_has_its_lists();
 }

@@ -9,7 +9,7 @@ use Rattle.std.proofs.lemmas.List.Sums.{sum_by-cons}
 use Rattle.std.proofs.Math.Nat.{le-min, min-le_left, min-le_right}
 use Rattle.std.specs.List.{AllByRecursion, list_any, range_with_len, slice_get}
 use Rattle.std.specs.Option.{option_map_or}
-use Rattle.std.specs.Prelude.{Contains, count_by, if◌then◌else◌, length}
+use Rattle.std.specs.Prelude.{Contains, count_by, if◌then◌else◌}
 use Rattle.hs_settled.proofs.CourseLemmas.{InRange, any_left, find_in, never_good, no_good, not_begins, taken_begins}
 use Rattle.hs_settled.proofs.AddingLemmas.{GoesOn}
 use Rattle.hs_settled.proofs.CausesFirstLemmas.{IsFirst, members_first, room_first, told_first}
@@ -209,22 +209,16 @@ module _ (S : Script) (r : Ran) (story : Story) (went : Went S r story) (peer : 
   most = let a : note_count peer told_all ≤ note_count peer (told_of (last_core S story)) = part_count in
       let b : note_count peer (told_of (last_core S story)) ≡ note_count peer (told_of opened) + failures true peer opened (all_of story) = counted in omega (arith, a, b)
 
-  first_count : peer < n → note_count peer (told_of opened) ≡ cond (starts_good story.found peer) 0 1
+  pub first_count : peer < S.set.shape.shards * S.set.shape.copies → note_count peer (told_of (first_core S.set story.found)) ≡ cond (starts_good story.found peer) 0 1
   first_count low =
       first_notes S.set.shape S.set.limits (opens_with S.set story.found) story.found.opened peer low
       ∙ ap (λ (m : Members). cond (is_good_status (status peer m)) 0 1) (sym (members_first S.set.shape S.set.limits (opens_with S.set story.found) story.found.opened went.found.goods))
       ∙ ap (λ b. cond b 0 1) (opened_good S r story went peer)
 
-  -- who is told of in opening is told of by what is handed back, or nothing is
-  first_told : (q : ℕ) → q < n → starts_good story.found q ≡ false → (is_first_noted q told_all ≡ true) ⊎ (note_count peer told_all ≡ 0)
-  first_told q low bad = elim (room_first S.set.shape S.set.limits (opens_with S.set story.found) story.found.opened went.found.goods) [
-    | inl clean ↦ inl (in_front clean (ap (λ es. es ++ r.refused) (went.journal ∙ ap (λ (c : Core). c.journal) (last_is S r story went) ∙ goes.is) ∙ append_assoc opened.journal goes.rest r.refused))
-    | inr none ↦ by_end none opened.ended refl
-  ]
+  -- who was not good is told of first
+  first_noted : (q : ℕ) → q < n → starts_good story.found q ≡ false → is_first_noted q (told_of opened) ≡ true
+  first_noted q low bad = any_at (is_first_note q) (told_of opened) there.place there.entry there.at noted
     where
-      goes : GoesOn opened.journal (steps opened (story.opening ++ all_events story.lines)).journal
-      goes = all_go_on (mute S.commands) S.set.shape S.set.limits opened (story.opening ++ all_events story.lines) opened_is (all_come_so S r story went) (all_ask_so S r story went)
-
       there : NoteAt q (told_of opened)
       there =
           let count : note_count q (told_of opened) ≡ 1 =
@@ -240,8 +234,27 @@ module _ (S : Script) (r : Ran) (story : Story) (went : Went S r story) (peer : 
           go true is = is
           go false is = absurd (not_both (sym there.note ∙ first_is_note n q there.entry (all_at (λ (e : JournalEntry). IsFirst n e) (told_of opened) there.place there.entry firsts there.at) is))
 
+  goes : GoesOn opened.journal (steps opened (story.opening ++ all_events story.lines)).journal
+  goes = all_go_on (mute S.commands) S.set.shape S.set.limits opened (story.opening ++ all_events story.lines) opened_is (all_come_so S r story went) (all_ask_so S r story went)
+
+  journal_goes : r.journal ≡ opened.journal ++ goes.rest
+  journal_goes = went.journal ∙ ap (λ (c : Core). c.journal) (last_is S r story went) ∙ goes.is
+
+  -- so the journal of a core that goes on tells of it
+  pub first_in_journal : (first_core S.set story.found).ended ≡ None → (q : ℕ) → q < S.set.shape.shards * S.set.shape.copies → starts_good story.found q ≡ false → is_first_noted q r.journal ≡ true
+  first_in_journal going q low bad =
+      let all : told_of opened ≡ opened.journal = ap (λ (es : List JournalEntry). opened.journal ++ es) (opened_is.noted.going going) ∙ append-nil opened.journal in
+      ap (is_first_noted q) journal_goes ∙ any_left (is_first_note q) opened.journal goes.rest (ap (is_first_noted q) (sym all) ∙ first_noted q low bad)
+
+  -- who is told of in opening is told of by what is handed back, or nothing is
+  first_told : (q : ℕ) → q < n → starts_good story.found q ≡ false → (is_first_noted q told_all ≡ true) ⊎ (note_count peer told_all ≡ 0)
+  first_told q low bad = elim (room_first S.set.shape S.set.limits (opens_with S.set story.found) story.found.opened went.found.goods) [
+    | inl clean ↦ inl (in_front clean (ap (λ es. es ++ r.refused) journal_goes ∙ append_assoc opened.journal goes.rest r.refused))
+    | inr none ↦ by_end none opened.ended refl
+  ]
+    where
       in_told : is_first_noted q (told_of opened) ≡ true
-      in_told = any_at (is_first_note q) (told_of opened) there.place there.entry there.at noted
+      in_told = first_noted q low bad
 
       in_front : opened.refused ≡ [] → told_all ≡ opened.journal ++ (goes.rest ++ r.refused) → is_first_noted q told_all ≡ true
       in_front clean is =
@@ -420,7 +433,7 @@ module _ (S : Script) (r : Ran) (story : Story) (went : Went S r story) (peer : 
 
   pub notes_caused : (peer < S.set.shape.shards * S.set.shape.copies → IsReadAs r story peer) → DiskRose r (loss_count story peer) peer
       → ((first_core S.set story.found).ended ≡ None → DiskRose r (failures true peer (first_core S.set story.found) (all_of story) + loss_count story peer) peer)
-      → ((S.set.shape.copies ≡ 1 → ⊥) → peer < S.set.shape.shards * S.set.shape.copies → starts_good story.found peer ≡ false → IsAsideAs S r story peer)
+      → ((S.set.shape.copies ≡ 1 → ⊥) → (first_core S.set story.found).ended ≡ None → peer < S.set.shape.shards * S.set.shape.copies → starts_good story.found peer ≡ false → IsAsideAs S r story peer)
       → DiskRose r (note_count peer (r.journal ++ r.refused) - extra_note S r peer) peer
   notes_caused read lost failed set_aside = elim (cases_lt peer n) [
     | inl low ↦ by_good low (starts_good story.found peer) refl
@@ -440,7 +453,7 @@ module _ (S : Script) (r : Ran) (story : Story) (went : Went S r story) (peer : 
       by_bad low bad (Some f) over = aside_noted low bad lost failed (ended_told low bad f over (read low)) (ended_aside low bad f over (read low))
       by_bad low bad None going = elim (cases_eq S.set.shape.copies 1) [
         | inl one ↦ absurd (bad_ends one low bad going)
-        | inr several ↦ let why = set_aside several low bad in aside_noted low bad lost failed why.told (λ untaken. inl (why.aside untaken))
+        | inr several ↦ let why = set_aside several going low bad in aside_noted low bad lost failed why.told (λ untaken. inl (why.aside untaken))
       ]
 
       by_good : peer < n → (b : Bool) → starts_good story.found peer ≡ b → DiskRose r (note_count peer told_all - extra_note S r peer) peer

@@ -111,11 +111,11 @@ zero_below k = grind (arith, tests)
 
 module _ (S : Script) {X : Type 0} (lines : List X) (entries : List JournalEntry)
     (within : (i n : ℕ) → IsOfLine entries i n → (1 ≤ n) × (n < 1 + length lines)) (once : (i j n : ℕ) → IsOfLine entries i n → IsOfLine entries j n → i ≡ j) where
-  -- entries of lines that pass a test are no more than the lines that pass it
-  pub lines_most : (test : Option Op → Bool) (passes : X → Bool)
-      → ((i : ℕ) (line : X) → slice_get lines i ≡ Some line → test (client_op (S.commands (1 + i))) ≡ true → passes line ≡ true)
+  -- entries of lines that pass a test are no more than the lines of which there is such an entry
+  pub lines_by : (test : Option Op → Bool) (passes : X → Bool)
+      → ((i : ℕ) (line : X) → slice_get lines i ≡ Some line → (j : ℕ) → IsOfLine entries j (1 + i) → test (client_op (S.commands (1 + i))) ≡ true → passes line ≡ true)
       → many (is_of_line test S) entries ≤ count_by passes lines
-  lines_most test passes marks =
+  lines_by test passes marks =
       let all : many (is_of_line test S) entries ≤ many (from_key (key_of test S) 1) entries = many_le (is_of_line test S) (from_key (key_of test S) 1) entries first in
       let most : many (from_key (key_of test S) 1) entries ≤ many passes lines = keyed (key_of test S) passes entries lines 1 caps (many_none (from_key (key_of test S) (1 + length lines)) entries none) in
       let counted : many passes lines ≡ count_by passes lines = many-counted passes lines in
@@ -146,8 +146,14 @@ module _ (S : Script) {X : Type 0} (lines : List X) (entries : List JournalEntry
           go true p = many_once (at_key (key_of test S) (1 + i)) entries (λ j k x y first second is too.
               once j k (1 + i) (record { entry = x; at = first; line = (keyed_at (1 + i) x is).line }) (record { entry = y; at = second; line = (keyed_at (1 + i) y too).line }))
           go false p =
-              let nobody = many_none (at_key (key_of test S) (1 + i)) entries (λ j x first is. cc (marks i line there (keyed_at (1 + i) x is).passes, p)) in
+              let nobody = many_none (at_key (key_of test S) (1 + i)) entries (λ j x first is. cc (marks i line there j (record { entry = x; at = first; line = (keyed_at (1 + i) x is).line }) (keyed_at (1 + i) x is).passes, p)) in
               omega (arith, nobody)
+
+  -- so they are no more than the lines that pass it
+  pub lines_most : (test : Option Op → Bool) (passes : X → Bool)
+      → ((i : ℕ) (line : X) → slice_get lines i ≡ Some line → test (client_op (S.commands (1 + i))) ≡ true → passes line ≡ true)
+      → many (is_of_line test S) entries ≤ count_by passes lines
+  lines_most test passes marks = lines_by test passes (λ i line at j of is. marks i line at is)
 
 module _ (S : Script) (lines : List (List ℕ)) (says : (n : ℕ) → S.commands n ≡ commands_of lines n) (entries : List JournalEntry)
     (named : (i n : ℕ) → IsOfLine entries i n → IsSome (S.commands n)) (once : (i j n : ℕ) → IsOfLine entries i n → IsOfLine entries j n → i ≡ j) where

@@ -23,6 +23,7 @@ pub mod EndLemmas
 pub mod EndsCountLemmas
 pub mod EndsEndLemmas
 pub mod FallLemmas
+pub mod FirstItemsLemmas
 pub mod FirstLemmas
 pub mod GoingLemmas
 pub mod GotLemmas
@@ -60,6 +61,7 @@ pub mod ScriptLemmas
 pub mod SeatLemmas
 pub mod SentLemmas
 pub mod ShortLemmas
+pub mod StartLineLemmas
 pub mod StartedLemmas
 pub mod StepLemmas
 pub mod UntoldLemmas

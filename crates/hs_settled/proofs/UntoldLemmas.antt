@@ -1,14 +1,20 @@
--- A peer that was good as the core opened is so until a note tells that it is down, where no line asks it to fail.
-use Rattle.std.proofs.Common.{◌≡◌, ◌⊎◌, inl, inr, ◌∙◌, ap, sym, subst, ℕ, suc, ◌+◌, ◌*◌, ◌<◌, ◌≤◌, ◌++◌, Bool, true, false, cond, List, [], ◌∷◌, Option, Some, None, refl, arith, length, is_none, nat_lt}
+-- A peer that was good is so until a note tells that it is down, where no line asks it to fail.
+use Rattle.std.proofs.Common.{◌≡◌, ◌⊎◌, inl, inr, ◌∙◌, ap, sym, subst, ℕ, zero, suc, ◌+◌, ◌*◌, ◌<◌, ◌≤◌, ◌||◌, ◌++◌, Bool, true, false, cond, List, [], ◌∷◌, Option, Some, None, refl, arith, length, is_none, nat_lt}
 use Rattle.std.proofs.lemmas.Bool.Decides.{nat_tests}
 use Rattle.std.proofs.lemmas.List.{append_assoc}
+use Rattle.std.proofs.lemmas.List.Folds.{list_any-append}
+use Rattle.std.proofs.lemmas.Nat.{div_below}
+use Rattle.std.proofs.Math.Bool.{or-false}
+use Rattle.std.specs.List.{list_any}
 use Rattle.std.specs.Option.{option_map}
 use Rattle.std.specs.Prelude.{if◌then◌else◌}
 use Rattle.hs_settled.proofs.AskLemmas.{AllAsk, Asks}
 use Rattle.hs_settled.proofs.CausesFirstLemmas.{moment_first}
+use Rattle.hs_settled.proofs.CausesCountLemmas.{first_count, first_in_journal}
 use Rattle.hs_settled.proofs.CausesGoodLemmas.{last_opened, no_line, opened_good}
+use Rattle.hs_settled.proofs.FirstItemsLemmas.{begun_behind, first_good_there, none_below_of, opened_good_from}
 use Rattle.hs_settled.proofs.KeptLemmas.{Kept, answering, peers_of_shape, step_kept}
-use Rattle.hs_settled.proofs.CausesListLemmas.{at_left, count_parts, not_both}
+use Rattle.hs_settled.proofs.CausesListLemmas.{any_none, at_left, count_parts, not_both}
 use Rattle.hs_settled.proofs.LevelLemmas.{le_or}
 use Rattle.hs_settled.proofs.LostLemmas.{all_good, costs_one, good_is, line_up}
 use Rattle.hs_settled.proofs.StartedLemmas.{first_ask, first_come, line_begun, lines_rise, there_kept, told_on}
@@ -28,7 +34,8 @@ use Rattle.hs_events.specs.Beginning.{first_items}
 use Rattle.hs_events.specs.Course.{happened, is_refused, items_of, steps}
 use Rattle.hs_events.specs.Due.{Events, MomentsRise}
 use Rattle.hs_events.specs.Found.{first_core, opens_with, starts_good}
-use Rattle.hs_fold.specs.Good.{good_from, is_good}
+use Rattle.hs_fold.specs.Good.{IsBegun, good_from, is_good}
+use Rattle.hs_fold.specs.Shards.Course.{is_good_below, was_good}
 use Rattle.hs_journal.specs.declared.entry.JournalEntry.{JournalEntry}
 use Rattle.hs_journal.specs.Moments.{below}
 use Rattle.hs_journal.specs.Order.{IsAt}
@@ -39,7 +46,7 @@ use Rattle.hs_limits.specs.declared.limits.PeerStatus.TheVariants.{Down, Good, J
 use Rattle.hs_limits.specs.declared.shape.Shape.{Shape}
 use Rattle.hs_standing.proofs.LinesStepLemmas.{step_line}
 use Rattle.hs_standing.specs.Script.{all_events}
-use Rattle.hs_members.specs.Members.{is_good_status}
+use Rattle.hs_members.specs.Members.{home_of, is_good_status}
 use Rattle.hs_model.specs.declared.command.Command.{Command}
 use Rattle.hs_model.specs.declared.command.Command.TheVariants as command
 use Rattle.hs_moments.proofs.CoreLemmas.{good_at, journal_at}
@@ -48,11 +55,13 @@ use Rattle.hs_moments.specs.CoreMachine.{core_at}
 use Rattle.hs_moments.specs.Machine.{until}
 use Rattle.hs_settled.proofs.NotedCountLemmas.{step_counts, told_by}
 use Rattle.hs_settled.proofs.NotedEventLemmas.{line_then}
+use Rattle.hs_ports.specs.Objects.{IsDuring}
 use Rattle.hs_promise.specs.Lost.{IsPast}
 use Rattle.hs_promise.specs.Machine.{Went}
 use Rattle.hs_promise.specs.Run.{Ran, Script}
 use Rattle.hs_promise.specs.Story.{Story, all_events as all_of}
-use Rattle.hs_promise.specs.Untold.{NoneFails}
+use Rattle.hs_promise.specs.Untold.{IsOpenTo, NoneFails}
+use Rattle.hs_promise.specs.Untold.IsOpenTo.{Alone, Begun, Was}
 use Rattle.hs_told.specs.InTurn.{AllMayCome, MayCome, OtherMay, told_of}
 
 -- ---- parts of a run
@@ -260,12 +269,9 @@ module _ (S : Script) (r : Ran) (story : Story) (went : Went S r story) (past : 
   rises : MomentsRise story.found.opened es r.new.moment
   rises = subst (λ xs. MomentsRise story.found.opened xs r.new.moment) same_events went.rises
 
-  module _ (m peer : ℕ) (low : peer < S.set.shape.shards * S.set.shape.copies) (starts : starts_good story.found peer ≡ true) where
+  module _ (m peer : ℕ) (low : peer < S.set.shape.shards * S.set.shape.copies) where
     abbrev now : Core
     now = core_at opened es m
-
-    first_good : status_of peer opened ≡ Good
-    first_good = good_is (status_of peer opened) (opened_good S r story went peer ∙ starts)
 
     front : IsFront (until m (happened opened es)) es
     front = front_at opened es m
@@ -293,7 +299,27 @@ module _ (S : Script) (r : Ran) (story : Story) (went : Went S r story) (past : 
         let first = moment_first S.set.shape S.set.limits (opens_with S.set story.found) story.found.opened went.found.goods in omega (arith, up, first, later))))
         ∙ ap (λ (c : Core). below m c.journal) (sym (last_is S r story went)) ∙ ap (λ (xs : List JournalEntry). below m xs) (sym went.journal)
 
-    module _ (untold : note_count peer (below m r.journal) ≡ 0) (none : NoneFails S r peer) where
+    -- so one of which no note tells below was good as the core opened
+    starts_untold : story.found.opened < m → note_count peer (below m r.journal) ≡ 0 → starts_good story.found peer ≡ true
+    starts_untold later untold = go (starts_good story.found peer) refl
+      where
+        told : (more : List JournalEntry) × (told_of now ≡ told_of opened ++ more)
+        told = told_on (mute S.commands) S.set.shape S.set.limits opened (until m (happened opened es)) kept come ask
+
+        go : (b : Bool) → starts_good story.found peer ≡ b → starts_good story.found peer ≡ true
+        go true is = is
+        go false is =
+            let first_one : note_count peer (told_of opened) ≡ 1 = first_count S r story went peer low ∙ ap (λ b. cond b 0 1) is in
+            let more : note_count peer (told_of now) ≡ note_count peer (told_of opened) + note_count peer told.0 = ap (λ (xs : List JournalEntry). note_count peer xs) told.1 ∙ count_parts peer (told_of opened) told.0 in
+            let all : note_count peer (told_of now) ≡ note_count peer now.journal + note_count peer now.refused = count_parts peer now.journal now.refused in
+            let clean : note_count peer now.refused ≡ 0 = ap (λ (xs : List JournalEntry). note_count peer xs) (none_refused now.ended refl (not_refused opened es m (ap is_refused going))) ∙ refl in
+            let none : note_count peer now.journal ≡ 0 = ap (λ (xs : List JournalEntry). note_count peer xs) (answered later) ∙ untold in
+            absurd (omega (arith, first_one, more, all, clean, none))
+
+    module _ (starts : starts_good story.found peer ≡ true) (untold : note_count peer (below m r.journal) ≡ 0) (none : NoneFails S r peer) where
+      first_good : status_of peer opened ≡ Good
+      first_good = good_is (status_of peer opened) (opened_good S r story went peer ∙ starts)
+
       fallen : story.found.opened < m → Fell (mute S.commands) peer now → ⊥
       fallen later (inl noted) =
           let all : note_count peer (told_of now) ≡ note_count peer now.journal + note_count peer now.refused = count_parts peer now.journal now.refused in
@@ -320,3 +346,48 @@ module _ (S : Script) (r : Ran) (story : Story) (went : Went S r story) (past : 
           ∙ ap (λ b. good_from b (items_of opened es) m peer) (begins ∙ sym (ap is_good_status first_good))
           ∙ good_at opened es story.found.opened r.new.moment m peer rises (subst (λ (z : Shape). peer < z.shards * z.copies) (sym kept.shaped) low)
           ∙ is_now
+
+  -- ---- for any number of copies
+
+  module _ (m peer : ℕ) (during : IsDuring r.old r.new m) (low : peer < S.set.shape.shards * S.set.shape.copies) where
+    some_copy : 0 < S.set.shape.copies
+    some_copy = go S.set.shape.copies low
+      where
+        go : (n : ℕ) → peer < S.set.shape.shards * n → 0 < n
+        go zero l = let nobody : S.set.shape.shards * 0 ≡ 0 = omega arith in absurd (omega (arith, l, nobody))
+        go (suc n) l = omega arith
+
+    home : home_of S.set.shape peer < S.set.shape.shards
+    home = div_below peer S.set.shape.copies S.set.shape.shards some_copy low
+
+    -- a Good of it below the opening is that of a taken log
+    was_first : m ≤ story.found.opened → was_good r.course m peer ≡ true → list_any (is_good_below m peer) (first_items S.set.shape story.found r.old.moment) ≡ true
+    was_first early was =
+        let parts : was_good r.course m peer ≡ (list_any (is_good_below m peer) (first_items S.set.shape story.found r.old.moment) || list_any (is_good_below m peer) (items_of opened es))
+        = ap (λ items. was_good items m peer) (went.course ∙ ap (λ xs. first_items S.set.shape story.found r.old.moment ++ items_of opened xs) same_events)
+        ∙ list_any-append (is_good_below m peer) (first_items S.set.shape story.found r.old.moment) (items_of opened es) in
+        let late : list_any (is_good_below m peer) (items_of opened es) ≡ false = any_none (is_good_below m peer) (items_of opened es) (none_below_of m peer story.found.opened r.new.moment opened es rises early) in
+        sym (or-false (list_any (is_good_below m peer) (first_items S.set.shape story.found r.old.moment))) ∙ ap (λ b. list_any (is_good_below m peer) (first_items S.set.shape story.found r.old.moment) || b) (sym late) ∙ sym parts ∙ was
+
+    module _ (untold : note_count peer (below m r.journal) ≡ 0) (none : NoneFails S r peer) where
+      started : (starts : starts_good story.found peer ≡ true) → good_from false (first_items S.set.shape story.found r.old.moment) m peer ≡ true → is_good r.course m peer ≡ true
+      started starts begins = good_untold m peer low starts untold none begins
+
+      -- behind the opening of the core
+      behind : story.found.opened < m → is_good r.course m peer ≡ true
+      behind later =
+          let starts : starts_good story.found peer ≡ true = starts_untold m peer low later untold in
+          started starts (opened_good_from S r story went.found peer low home starts m later)
+
+      pub good_while_untold : (S.set.shape.copies ≡ 1 → starts_good story.found peer ≡ true → good_from false (first_items S.set.shape story.found r.old.moment) m peer ≡ true) → IsOpenTo S r m peer → is_good r.course m peer ≡ true
+      good_while_untold alone (Alone one) = let starts : starts_good story.found peer ≡ true = all_start_good one peer low in started starts (alone one starts)
+      good_while_untold alone (Begun line its) =
+          behind (begun_behind S.set.shape story.found r.old.moment story.found.opened r.new.moment opened es rises line m (subst (λ items. IsBegun items line m) (went.course ∙ ap (λ xs. first_items S.set.shape story.found r.old.moment ++ items_of opened xs) same_events) its))
+      good_while_untold alone (Was there noted) = elim (le_or m story.found.opened) [
+        | inl early ↦ go early (starts_good story.found peer) refl
+        | inr later ↦ behind later
+      ]
+        where
+          go : m ≤ story.found.opened → (b : Bool) → starts_good story.found peer ≡ b → is_good r.course m peer ≡ true
+          go early true starts = started starts (first_good_there S r story went.found peer low home starts m (was_first early there))
+          go early false bad = absurd (not_both (sym (first_in_journal S r story went peer going peer low bad) ∙ noted))

@@ -15,8 +15,8 @@ ghost use Rattle.hs_settled.specs.Opened.{IsAsideAs};
 /// where its peer was set aside since its sides are no log, or since it was not yet made equal to a log
 /// that was lost. So it is where each log is that of its disk or its disk failed, and counts rose by what
 /// was lost before the core opened, and, where it went on, by all failures that it was told of
-/// (`opened`), with more copies than one where of each peer that was not good its disk shows why, and
-/// opening set it aside; and where no core was opened (`never`).
+/// (`opened`), with more copies than one where, as the core goes on, of each peer that was not good its disk
+/// shows why, and opening set it aside; and where no core was opened (`never`).
 pub fn each_note_has_its_cause()
     ensures opened { (S : Script) (r : Ran) (story : Story) → Went S r story
         → ((peer : ℕ) → peer < peer_count S.set.shape → IsReadAs r story peer)
@@ -24,7 +24,8 @@ pub fn each_note_has_its_cause()
         → ((first_core S.set story.found).ended ≡ None → (disk : ℕ) → DiskRose r
         (failures true disk (first_core S.set story.found) (all_events story)
         + loss_count story disk) disk)
-        → ((S.set.shape.copies ≡ 1 → ⊥) → (peer : ℕ) → peer < peer_count S.set.shape
+        → ((S.set.shape.copies ≡ 1 → ⊥) → (first_core S.set story.found).ended ≡ None
+        → (peer : ℕ) → peer < peer_count S.set.shape
         → starts_good story.found peer ≡ false → IsAsideAs S r story peer) →
         NotesCause S r }
     ensures never { (S : Script) (r : Ran) → NeverOpened r

@@ -41,7 +41,7 @@ use Rattle.hs_promise.specs.Machine.{NeverOpened, Went, WentAs, loss_count}
 use Rattle.hs_promise.specs.Run.{DiskRose, Ran, Script}
 use Rattle.hs_promise.specs.Stops.{Stops}
 use Rattle.hs_promise.specs.Story.{Story, all_events}
-use Rattle.hs_promise.specs.Untold.{NoneFails}
+use Rattle.hs_promise.specs.Untold.{IsGoodUntold}
 use Rattle.hs_script.specs.Reading.{commands}
 use Rattle.hs_side.specs.declared.header.Header.{Header}
 use Rattle.hs_standing.specs.Run.{MayRun, RunBegins}
@@ -70,9 +70,8 @@ pub record Laws : Type 0 where
   pub entries : (S : Script) (r : Ran) (how : Option Story) → WentAs S r how → All (IsEntry S r.line) r.journal
   pub dated : (S : Script) (r : Ran) (how : Option Story) → WentAs S r how → AreDated S.commands r.journal
   pub nothing : (S : Script) (r : Ran) (how : Option Story) → IsShape S.set.shape → WentAs S r how → IfSome how (LeavesUnread S r) → r.course ≡ [] → BeganNothing r
-  pub start_good : (S : Script) (r : Ran) (story : Story) → S.set.shape.copies ≡ 1 → Went S r story → IsPast r 0 → (peer : ℕ) → peer < peer_count S.set.shape → starts_good story.found peer ≡ true
-  pub stay_good : (S : Script) (r : Ran) (story : Story) → Went S r story → IsPast r 0 → (m peer : ℕ) → peer < peer_count S.set.shape → starts_good story.found peer ≡ true
-      → good_from false (first_items S.set.shape story.found r.old.moment) m peer ≡ true → note_count peer (below m r.journal) ≡ 0 → NoneFails S r peer → is_good r.course m peer ≡ true
+  pub good : (S : Script) (r : Ran) (story : Story) → Went S r story
+      → (S.set.shape.copies ≡ 1 → (m peer : ℕ) → r.old.moment < m → peer < peer_count S.set.shape → starts_good story.found peer ≡ true → good_from false (first_items S.set.shape story.found r.old.moment) m peer ≡ true) → IsGoodUntold S r
   pub notes_end : (S : Script) (r : Ran) (how : Option Story) → S.set.shape.copies ≡ 1 → WentAs S r how → NotesEnd r
   pub ordered : (S : Script) (r : Ran) (how : Option Story) → client_op (S.commands 0) ≡ None → WentAs S r how → IsOrdered S.commands r.journal
   pub none_good : (S : Script) (r : Ran) (how : Option Story) → WentAs S r how → IsShape S.set.shape → IfSome how (FailsInOpening r) → r.course ≡ [] → NoneGoodCause S r
@@ -87,7 +86,7 @@ pub record Laws : Type 0 where
   pub notes : (S : Script) (r : Ran) (story : Story) → Went S r story → ((peer : ℕ) → peer < peer_count S.set.shape → IsReadAs r story peer)
       → ((disk : ℕ) → DiskRose r (loss_count story disk) disk)
       → ((first_core S.set story.found).ended ≡ None → (disk : ℕ) → DiskRose r (failures true disk (first_core S.set story.found) (all_events story) + loss_count story disk) disk)
-      → ((S.set.shape.copies ≡ 1 → ⊥) → (peer : ℕ) → peer < peer_count S.set.shape → starts_good story.found peer ≡ false → IsAsideAs S r story peer) → NotesCause S r
+      → ((S.set.shape.copies ≡ 1 → ⊥) → (first_core S.set story.found).ended ≡ None → (peer : ℕ) → peer < peer_count S.set.shape → starts_good story.found peer ≡ false → IsAsideAs S r story peer) → NotesCause S r
   pub notes_never : (S : Script) (r : Ran) → NeverOpened r → ((disk : ℕ) → faults_at r.old.disk_faults disk ≤ faults_at r.new.disk_faults disk) → NotesCause S r
   pub stored : StoresBlocks
   -- settles

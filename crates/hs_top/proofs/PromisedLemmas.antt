@@ -58,6 +58,14 @@ module _ (laws : Laws) (tells : Type 0) (S : Script) (r : Ran) (names : GivesAdd
     in_time = cluster.served.prints.in_time;
   }
 
+  -- how long a peer is good
+  good_by : (how : Option Story) → WentAs S r how → IsGoodUntold S r
+  good_by None went past m peer during low untold none its = absurd (never_past r went past)
+  good_by (Some story) went = laws.good S r story went (λ one m peer above low start.
+      let count : S.set.shape.shards * S.set.shape.copies ≡ S.set.shape.shards = ap (λ n. S.set.shape.shards * n) one ∙ omega arith in
+      let within : peer < S.set.shape.shards * S.set.shape.copies = low in
+      opens_good S r story went.found one m peer above (omega (arith, within, count)) start)
+
   -- ---- with one copy a shard
 
   module _ (one : S.set.shape.copies ≡ 1) where
@@ -76,14 +84,6 @@ module _ (laws : Laws) (tells : Type 0) (S : Script) (r : Ran) (names : GivesAdd
 
     cause : Cause S r r.ending
     cause = laws.cause S r cluster.how cluster.went (λ several. absurd (several one)) cluster.served.causes.read cluster.served.causes.write cluster.served.within
-
-    good_by : (how : Option Story) → WentAs S r how → IsGoodUntold S r
-    good_by None went past m peer during low untold none was = absurd (never_past r went past)
-    good_by (Some story) went past m peer during low untold none was =
-        let start : starts_good story.found peer ≡ true = laws.start_good S r story one went past peer low in
-        let count : S.set.shape.shards * S.set.shape.copies ≡ S.set.shape.shards = ap (λ n. S.set.shape.shards * n) one ∙ omega arith in
-        let within : peer < S.set.shape.shards * S.set.shape.copies = low in
-        laws.stay_good S r story went past m peer low start (opens_good S r story went.found one m peer during.above (omega (arith, within, count)) start) untold none
 
     -- ---- what stands where the disks tell
 
@@ -158,7 +158,6 @@ module _ (laws : Laws) (tells : Type 0) (S : Script) (r : Ran) (names : GivesAdd
     promised_alone : PromisedAlone tells S r
     promised_alone = record {
       cause = cause;
-      good = good_by cluster.how cluster.went;
       notes_end = laws.notes_end S r cluster.how one cluster.went;
       told = where_told;
     }
@@ -177,6 +176,7 @@ module _ (laws : Laws) (tells : Type 0) (S : Script) (r : Ran) (names : GivesAdd
     calm = cluster.served.calm;
     ordered = laws.ordered S r cluster.how nobody cluster.went;
     none_good = λ none. laws.none_good S r cluster.how cluster.went cluster.shape in_opening none;
+    good = good_by cluster.how cluster.went;
     ends = cluster.served.ends;
     shape = cluster.served.shape;
     headers = cluster.served.headers;

@@ -52,10 +52,9 @@ pub record FromEntry (S : Script) (r : Ran) : Type 0 where
   pub deletes : Deletes S (entry_store S r) r
   pub settles : SettlesEach S (entry_store S r) r
 
--- so far with one copy a shard: why one is lost, whatever the disks tell; what notes tell, and how long a peer is good
+-- so far with one copy a shard: why one is lost, whatever the disks tell; and what notes tell
 pub record PromisedAlone (tells : Type 0) (S : Script) (r : Ran) : Type 0 where
   pub cause : Cause S r r.ending
-  pub good : IsGoodUntold S r
   pub notes_end : NotesEnd r
   pub told : tells → PromisedWhereTold S r
 
@@ -73,6 +72,7 @@ pub record Promised (tells : Type 0) (S : Script) (r : Ran) : Type 0 where
   pub calm : EndsCalm S r
   pub ordered : IsOrdered S.commands r.journal
   pub none_good : r.course ≡ [] → NoneGoodCause S r
+  pub good : IsGoodUntold S r
   pub ends : IfSome r.old.left (λ script. IfSome r.new.left (Ends r script))
   pub shape : tells → ShapeCause S r
   pub headers : tells → KeepsHeaders S r

@@ -1,6 +1,5 @@
 use Rattle.hs_clauses.proofs.AskedLemmas.{its_disks, told_as}
 use Rattle.hs_clauses.specs.Asked.{start_of}
-use Rattle.hs_core_words.specs.State.{Core}
 use Rattle.hs_events.specs.Course.{steps}
 use Rattle.hs_events.specs.Due.{Events}
 use Rattle.hs_events.specs.Found.{first_core}

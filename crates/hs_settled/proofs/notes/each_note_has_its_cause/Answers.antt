@@ -15,7 +15,7 @@ never_noted S r never stand peer =
     none = ap (λ es. note_count peer (es ++ r.refused)) never.journal ∙ ap (λ es. note_count peer es) never.refused
 
 pub returns-clause-opened : goal.returns-clause-opened
-returns-clause-opened c = λ S r story went read lost failed aside peer. notes_caused S r story went peer (read peer) (lost peer) (λ going. failed going peer) (λ several. aside several peer)
+returns-clause-opened c = λ S r story went read lost failed aside peer. notes_caused S r story went peer (read peer) (lost peer) (λ going. failed going peer) (λ several going low bad. aside several going peer low bad)
 
 pub returns-clause-never : goal.returns-clause-never
 returns-clause-never c = λ S r never stand. never_noted S r never stand
