@@ -115,7 +115,7 @@ module _ (laws : Laws) (tells : Type 0) (name : List ℕ → Address) (shape : S
     pub here : IsTold tells e
     here = told_here e asks.set asks.disks
 
-    answers_here : AnswersFrom (client_script name shape now.commands) (store_before name shape r) r.journal
+    pub answers_here : AnswersFrom (client_script name shape now.commands) (store_before name shape r) r.journal
     answers_here =
         let answers : AnswersFrom (client_script name shape now.commands) (opened (set_of name shape) (or_blank (lists_of e.disks))) r.journal =
         answers_from laws (client_script name shape now.commands) (beneath r asks.until (status_by now.ended)) (told_run tells (client_script name shape now.commands) (beneath r asks.until (status_by now.ended)) told one names asks.machine)

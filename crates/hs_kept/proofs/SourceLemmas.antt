@@ -59,7 +59,7 @@ opens_drop o is = subst (λ (x : Op). IsNoDrop x) (sym is) tt
 fetches_drop : (key : List ℕ) (ops : List Op) → IsFetching key ops → AllByRecursion IsNoDrop ops
 fetches_drop key [] w = tt
 fetches_drop key (o ∷ []) w = (opens_drop o w, tt)
-fetches_drop key (o ∷ l ∷ ops) w = (opens_drop o w.0, subst (λ (x : Op). IsNoDrop x) (sym w.1) tt, all_reads our_session ops w.2)
+fetches_drop key (o ∷ l ∷ ops) w = (opens_drop o w.0, (subst (λ (x : Op). IsNoDrop x) (sym w.1) tt, all_reads our_session ops w.2))
 
 -- ---- the store at its opening
 
