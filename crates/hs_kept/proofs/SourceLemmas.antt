@@ -116,7 +116,7 @@ module _ (laws : Laws) (tells : Type 0) (name : List ℕ → Address) (shapes : 
     stays_from ops asked drops = stays_by (subst (λ (xs : List Op). AllByRecursion IsNoDrop xs) (ap (λ (xs : List Op). xs ++ ops) (sym asks.first) ∙ sym asked) drops)
 
     listed : {n : ℕ} → HasListed key s t n → FirstStays tells name shapes r
-    listed h = stays_from (op.Open our_session ∷ op.Look our_session key ∷ h.ops) h.asked (tt, tt, all_reads our_session h.ops h.kinds)
+    listed h = stays_from (op.Open our_session ∷ op.Look our_session key ∷ h.ops) h.asked (tt, (tt, all_reads our_session h.ops h.kinds))
 
   pub first_stays : (every : Option ℕ) → CopiesRoot tells name shapes key every r → FirstStays tells name shapes r
   first_stays every h = by_end h.ends
