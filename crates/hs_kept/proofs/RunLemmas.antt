@@ -69,7 +69,7 @@ module _ (tells : Type 0) (S : Script) (r : Ran) (told : tells) (one : S.set.sha
       disks : length r.old.disks ≡ S.set.shape.shards
       disks = cluster.count ∙ ap (λ n. S.set.shape.shards * n) one ∙ omega arith
 
-  shown_by : (how : Option Story) → WentAs S r how → IfSome how (HasReadDisks S r) → IfSome how (RunsOnDisks tells S r) → (how ≡ None → IsUnopened tells r) → ShownAs S r how
+  pub shown_by : (how : Option Story) → WentAs S r how → IfSome how (HasReadDisks S r) → IfSome how (RunsOnDisks tells S r) → (how ≡ None → IsUnopened tells r) → ShownAs S r how
   shown_by None went read runs unopened =
       let u : IsUnopened tells r = unopened refl in
       unopened_of tells S r on_disks u.span told u.before u.old.stands u.new.stands went (λ wanting. u.taken)

@@ -57,7 +57,6 @@ use Rattle.hs_tree.proofs.GatherLemmas.{before_none}
 use Rattle.hs_tree.specs.Growing.{HasPlanted, IsOpenAndWork, IsPlanted, IsStoringOp, Matches, Place, name_of}
 use Rattle.hs_tree.specs.Storing.{AsksRoot, our_session}
 use Rattle.hs_tree.specs.Trees.{height, stored_cut}
-use Rattle.hs_tree.specs.declared.grow.Node.{Node}
 use Rattle.hs_kept.proofs.AskedLemmas.{ClientsAre, IsOurs, done_clients, finds_same, our_works, quiet_ops, some_line}
 use Rattle.hs_kept.proofs.FilesLemmas.{asks_plainly, began_is, here, lists_are}
 use Rattle.hs_kept.proofs.LawLemmas.{Laws}
@@ -85,15 +84,15 @@ no_note n (x ∷ xs) notes (inr h) = no_note n xs notes.1 h
 
 -- ---- the top that a session holds
 
-record HoldsTop (s : Store) (n : Node) : Type 0 where
+record HoldsTop {N : Type 0} (fits : N → ℕ × Held → Type 0) (s : Store) (n : N) : Type 0 where
   next : ℕ
   es : List (ℕ × Held)
   seat : HasSeat s our_session next es
   e : ℕ × Held
   member : Member e es
-  matches : Matches n e
+  matches : fits n e
 
-holds_top : (name : List ℕ → Address) (b : Began) (s : Store) (n : Node) (place : Place) → HasPlanted name b s our_session (n ∷ []) [] [] (place ∷ []) → HoldsTop s n
+holds_top : (name : List ℕ → Address) (b : Began) (s : Store) (n : _) (place : Place) → HasPlanted name b s our_session (n ∷ []) [] [] (place ∷ []) → HoldsTop Matches s n
 holds_top name b s n place h = go h.fore h.fronts h.seat
   where
     go : (fore : List (ℕ × Held)) → AllZip Matches (n ∷ []) fore → HasSeat s our_session h.next (fore ++ (h.middle ++ h.back)) → HoldsTop s n
@@ -235,7 +234,7 @@ module _ (laws : Laws) (moments : MomentLaws) (stops : StopsSo) (tells : Type 0)
       planted : HasPlanted name root.before.began (store_now root.before.began root.before) our_session (root.top ∷ []) [] [] (place ∷ [])
       planted = root.grown.told (here laws tells name shape r told one names sound e start now asks)
 
-      top : HoldsTop (store_now root.before.began root.before) root.top
+      top : HoldsTop Matches (store_now root.before.began root.before) root.top
       top = holds_top name root.before.began (store_now root.before.began root.before) root.top place planted
 
       names_top : root.top.address ≡ name_of name place
