@@ -95,7 +95,7 @@ record HoldsTop {N : Type 0} (fits : N → ℕ × Held → Type 0) (s : Store) (
 holds_top : (name : List ℕ → Address) (b : Began) (s : Store) (n : _) (place : Place) → HasPlanted name b s our_session (n ∷ []) [] [] (place ∷ []) → HoldsTop Matches s n
 holds_top name b s n place h = go h.fore h.fronts h.seat
   where
-    go : (fore : List (ℕ × Held)) → AllZip Matches (n ∷ []) fore → HasSeat s our_session h.next (fore ++ (h.middle ++ h.back)) → HoldsTop s n
+    go : (fore : List (ℕ × Held)) → AllZip Matches (n ∷ []) fore → HasSeat s our_session h.next (fore ++ (h.middle ++ h.back)) → HoldsTop Matches s n
     go [] zipped seat = absurd zipped
     go (e ∷ fore) zipped seat = record { next = h.next; es = e ∷ fore ++ (h.middle ++ h.back); seat = seat; e = e; member = inl refl; matches = zipped.0 }
 
