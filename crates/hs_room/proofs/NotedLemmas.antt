@@ -1,5 +1,5 @@
 -- What the entries of a core stand for along own events: no entry is of line 0.
-use Rattle.std.proofs.Common.{◌≡◌, inl, inr, ◌∙◌, ap, sym, subst, ℕ, zero, suc, ◌+◌, ◌*◌, ◌<◌, ◌++◌, [], ◌∷◌, Option, Some, None, IsSome, refl, arith, length, take}
+use Rattle.std.proofs.Common.{◌≡◌, inl, inr, ◌∙◌, ap, sym, subst, ℕ, zero, suc, ◌*◌, ◌<◌, ◌++◌, [], ◌∷◌, Option, Some, None, IsSome, refl, arith, length, take}
 use Rattle.hs_core_words.specs.declared.event.Event.{Event}
 use Rattle.hs_core_words.specs.declared.event.Event.TheVariants as event
 use Rattle.hs_core_words.specs.Looking.{shape_of}

@@ -1,5 +1,5 @@
 -- A cluster that opens over sound lists: its core is that of a run so far.
-use Rattle.std.proofs.Common.{◌≡◌, ◌⊎◌, ◌∙◌, inl, inr, ap, sym, subst, ℕ, ◌+◌, ◌≤◌, ◌&&◌, not, cond, Bool, true, false, [], ◌∷◌, Option, Some, None, refl, arith, is_none, is_some}
+use Rattle.std.proofs.Common.{◌≡◌, ◌⊎◌, ◌∙◌, inl, inr, ap, sym, subst, ℕ, ◌+◌, ◌≤◌, not, true, false, Option, Some, None, refl, arith}
 use Rattle.std.proofs.lemmas.Bool.{cases_eq}
 use Rattle.std.specs.Prelude.{⊤, Result}
 use Rattle.hs_clauses.specs.Run.{ReadsInStep}
@@ -9,13 +9,9 @@ use Rattle.hs_cluster.specs.declared.fault.ClusterFault.{ClusterFault}
 use Rattle.hs_cluster.specs.Kept.{AreStored}
 use Rattle.hs_cluster.specs.Opens.{Opens}
 use Rattle.hs_cluster.specs.Running.{Running}
-use Rattle.hs_core_words.specs.declared.event.Event.{Event}
-use Rattle.hs_core_words.specs.declared.event.Event.TheVariants as event
 use Rattle.hs_core_words.specs.State.{Core}
-use Rattle.hs_core_words.specs.Step.{step}
 use Rattle.hs_desk.specs.declared.fault.CoreFault.TheVariants as fault
 use Rattle.hs_events.specs.Course.{steps}
-use Rattle.hs_events.specs.Due.{Events}
 use Rattle.hs_events.specs.Found.{Found, first_core}
 use Rattle.hs_events.specs.Reports.{failures}
 use Rattle.hs_events.specs.Whole.{open_whole}
@@ -31,8 +27,9 @@ use Rattle.hs_ports.specs.Objects.{RoseBy}
 use Rattle.hs_room.proofs.CallLemmas.{CallLaws, by_report, call_alone, call_ends, call_moments, call_so_far, lost_line, not_full}
 use Rattle.hs_room.proofs.LostLemmas.{FellIn}
 use Rattle.hs_room.proofs.SoFarLemmas.{first_so_far}
-use Rattle.hs_room.specs.Room.{Call, EndsWell, IsSoFar, KeepsRoom, LossCause, entries_most, starts_in, starts_peer}
-use Rattle.hs_settled.proofs.AskLemmas.{AllIts, Its, opening_its}
+use Rattle.hs_room.proofs.StartedLemmas.{starts_or}
+use Rattle.hs_room.specs.Room.{Call, EndsWell, IsSoFar, KeepsRoom, LossCause, entries_most, starts_in}
+use Rattle.hs_settled.proofs.AskLemmas.{AllIts, opening_its}
 use Rattle.hs_settled.proofs.CausesRunLemmas.{mute}
 use Rattle.hs_sound.specs.Stay.{AreSoundAlong}
 use Rattle.hs_standing.specs.Held.{GivesAddresses}
@@ -88,34 +85,12 @@ module _ (opening : OpeningLaws) (laws : CallLaws) (tells : Type 0) (told : tell
   mute_its = opening_its (mute commands) (not (ran_out done)) first o.events o.due
 
   -- nobody is started
-  none_starts : (es : Events) (c : Core) → AllIts (mute commands) 0 c es → starts_in c es ≡ 0
-  none_starts [] c its = refl
-  none_starts (e ∷ es) c its =
-      let here : cond (is_none c.ended && is_some (starts_peer c e.0)) 1 0 ≡ 0 = by_event e.0 its.0 in
-      let rest : starts_in (step e.0 e.1 c) es ≡ 0 = none_starts es (step e.0 e.1 c) its.1 in
-      omega (arith, here, rest)
+  none_starts : starts_in (first_core set o.found) o.events ≡ 0
+  none_starts = go (starts_or (mute commands) refl 0 (first_core set o.found) o.events mute_its)
     where
-      never : (b : Bool) → cond (b && false) 1 0 ≡ 0
-      never true = refl
-      never false = refl
-
-      none_of : (line : ℕ) → (line ≡ 0) ⊎ (line ≡ 0) → line ≡ 0
-      none_of line (inl is) = is
-      none_of line (inr is) = is
-
-      mute_line : (line peer : ℕ) → (line ≡ 0) ⊎ (line ≡ 0) → mute commands line ≡ Some (command.Start peer) → ⊥
-      mute_line line peer is asks = let zero_line : line ≡ 0 = none_of line is in let both : None ≡ Some (command.Start peer) = ap (mute commands) (sym zero_line) ∙ asks in cc both
-
-      by_event : (x : Event) → Its (mute commands) 0 c x → cond (is_none c.ended && is_some (starts_peer c x)) 1 0 ≡ 0
-      by_event (event.Line line o) i = never (is_none c.ended)
-      by_event (event.Report peer d) i = never (is_none c.ended)
-      by_event (event.Turn line peer) i = never (is_none c.ended)
-      by_event (event.Deliver line number) i = never (is_none c.ended)
-      by_event (event.Lose line number) i = never (is_none c.ended)
-      by_event (event.Repeat line number) i = never (is_none c.ended)
-      by_event (event.Nudge line peer) i = never (is_none c.ended)
-      by_event (event.Fail line peer) i = never (is_none c.ended)
-      by_event (event.Start line peer) i = absurd (mute_line line peer i.of i.asks)
+      go : (starts_in (first_core set o.found) o.events ≡ 0) ⊎ ((p : ℕ) × (mute commands 0 ≡ Some (command.Start p))) → starts_in (first_core set o.found) o.events ≡ 0
+      go (inl none) = none
+      go (inr asked) = let both : None ≡ Some (command.Start asked.0) = asked.1 in absurd (cc both)
 
   pub opened_room : KeepsRoom (start_of set commands o.found) 0 (first_core set o.found) o.events done cluster
   opened_room = record {
@@ -145,23 +120,20 @@ module _ (opening : OpeningLaws) (laws : CallLaws) (tells : Type 0) (told : tell
     why = elim fell.why [
       | inl asks ↦ absurd (no_line_asks asks)
       | inr fails ↦
-          by_report set.shape.copies p call (cases_eq set.shape.copies 1)
-          (λ one. rose_below (failures true p first o.events) (seen_at span.old p).faults (seen_at o.disks p).faults (seen_at span.new p).faults (o.falls p) (counted one p))
-          (rose_below (failures false p first o.events) (seen_at span.old p).faults (seen_at o.disks p).faults (seen_at span.new p).faults (o.falls p) (o.counted.failed p)) fails
+          by_report set.shape.copies (peer_of set.shape g fell.copy) call (cases_eq set.shape.copies 1)
+          (λ one. rose_below (failures true (peer_of set.shape g fell.copy) first o.events) (seen_at span.old (peer_of set.shape g fell.copy)).faults (seen_at o.disks (peer_of set.shape g fell.copy)).faults (seen_at span.new (peer_of set.shape g fell.copy)).faults (o.falls (peer_of set.shape g fell.copy)) (counted one (peer_of set.shape g fell.copy)))
+          (rose_below (failures false (peer_of set.shape g fell.copy) first o.events) (seen_at span.old (peer_of set.shape g fell.copy)).faults (seen_at o.disks (peer_of set.shape g fell.copy)).faults (seen_at span.new (peer_of set.shape g fell.copy)).faults (o.falls (peer_of set.shape g fell.copy)) (o.counted.failed (peer_of set.shape g fell.copy))) fails
     ];
   }
     where
       fell : FellIn (mute commands) set.shape set.limits refl 0 g (first_core set o.found) o.events
       fell = lost_line laws start 0 0 first o.events so first_going low may come its_all mute_its g over
 
-      abbrev p : ℕ
-      p = peer_of set.shape g fell.copy
-
-      no_line_asks : mute commands 0 ≡ Some (command.Fail p) → ⊥
-      no_line_asks asks = let both : None ≡ Some (command.Fail p) = asks in cc both
+      no_line_asks : mute commands 0 ≡ Some (command.Fail (peer_of set.shape g fell.copy)) → ⊥
+      no_line_asks asks = let both : None ≡ Some (command.Fail (peer_of set.shape g fell.copy)) = asks in cc both
 
   pub opened_ends : entries_most commands set.shape 0 ≤ set.limits.ops
       → EndsWell set.shape (record { asked = None; core = first_core set o.found; events = o.events; old = span.old; new = span.new }) done
   opened_ends fits = call_ends set.shape call done cluster.core o.outcome
-      (λ fine full. not_full laws start 0 0 first o.events so first_going low may come its_all mute_its 0 (inr (let none = none_starts o.events first mute_its in omega (arith, none))) (omega (arith, fits)) (ap (λ (x : Core). x.ended) (sym (o.core fine)) ∙ full))
+      (λ fine full. not_full laws start 0 0 first o.events so first_going low may come its_all mute_its 0 (inr (let none : starts_in (first_core set o.found) o.events ≡ 0 = none_starts in omega (arith, none))) (omega (arith, fits)) (ap (λ (x : Core). x.ended) (sym (o.core fine)) ∙ full))
       (λ fine g over. lost g (ap (λ (x : Core). x.ended) (sym (o.core fine)) ∙ over))

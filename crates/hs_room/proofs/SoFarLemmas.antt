@@ -29,7 +29,7 @@ may_append start core (e ∷ es) fs may more = (may.0, may_append start (step e.
 
 -- the starts of some events and of those behind them
 pub starts_both : (core : Core) (es fs : Events) → starts_in core (es ++ fs) ≡ starts_in core es + starts_in (steps core es) fs
-starts_both core [] fs = refl
+starts_both core [] fs = omega arith
 starts_both core (e ∷ es) fs = let rest = starts_both (step e.0 e.1 core) es fs in omega (arith, rest)
 
 -- what the law of a core says of a run

@@ -7,6 +7,7 @@ use Rattle.hs_core_words.specs.declared.event.Event.{Event}
 use Rattle.hs_core_words.specs.declared.event.Event.TheVariants as event
 use Rattle.hs_core_words.specs.State.{Core}
 use Rattle.hs_core_words.specs.Step.{step}
+use Rattle.hs_desk.specs.declared.fault.CoreFault.{CoreFault}
 use Rattle.hs_events.proofs.RunLemmas.{steps_append}
 use Rattle.hs_events.specs.Commands.{AreOfLine, BeginsWith, LineAt}
 use Rattle.hs_events.specs.Course.{steps}
@@ -33,14 +34,17 @@ use Rattle.hs_told.specs.InTurn.{told_of}
 
 -- ---- the starts of some events
 
-abbrev one_start : Core → Event → ℕ
-one_start c e = cond (is_none c.ended && is_some (starts_peer c e)) 1 0
+abbrev one_of : Bool → ℕ
+one_of b = cond b 1 0
 
-never : (b : Bool) → cond (b && false) 1 0 ≡ 0
+abbrev one_start : Core → Event → ℕ
+one_start c e = one_of (is_none c.ended && is_some (starts_peer c e))
+
+never : (b : Bool) → one_of (b && false) ≡ 0
 never true = refl
 never false = refl
 
-most_one : (b : Bool) → cond b 1 0 ≤ 1
+most_one : (b : Bool) → one_of b ≤ 1
 most_one true = omega arith
 most_one false = omega arith
 
@@ -61,7 +65,7 @@ module _ (commands : ℕ → Option Command) (nobody : commands 0 ≡ None) wher
       by_line (inl no_line) = let both : None ≡ Some (command.Start peer) = sym nobody ∙ ap commands (sym no_line) ∙ its.asks in absurd (cc both)
       by_line (inr here) = inr (peer, ap commands (sym here) ∙ its.asks)
 
-  starts_or : (line : ℕ) (c : Core) (es : Events) → AllIts commands line c es → (starts_in c es ≡ 0) ⊎ ((p : ℕ) × (commands line ≡ Some (command.Start p)))
+  pub starts_or : (line : ℕ) (c : Core) (es : Events) → AllIts commands line c es → (starts_in c es ≡ 0) ⊎ ((p : ℕ) × (commands line ≡ Some (command.Start p)))
   starts_or line c [] its = inl refl
   starts_or line c (e ∷ es) its = both (event_starts line c e.0 its.0) (starts_or line (step e.0 e.1 c) es its.1)
     where
@@ -81,15 +85,15 @@ module _ (commands : ℕ → Option Command) (nobody : commands 0 ≡ None) wher
   one_event : (line p : ℕ) (c : Core) (e : Event × ℕ) → c.ended ≡ None → e.0 ≡ event.Start line p → LineStarts line c (e ∷ [])
   one_event line p c e going own = go (first (no_peer p c ∷ not_down p c ∷ [])) refl
     where
-      is : (o : Option Reply) → first (no_peer p c ∷ not_down p c ∷ []) ≡ o → one_start c e.0 ≡ cond (is_none c.ended && is_some (if is_none o then Some p else None)) 1 0
-      is o fits = ap (one_start c) own ∙ ap (λ (x : Option Reply). cond (is_none c.ended && is_some (if is_none x then Some p else None)) 1 0) fits
+      is : (o : Option Reply) → first (no_peer p c ∷ not_down p c ∷ []) ≡ o → one_start c e.0 ≡ one_of (is_none c.ended && is_some (if is_none o then Some p else None))
+      is o fits = ap (one_start c) own ∙ ap (λ (x : Option Reply). one_of (is_none c.ended && is_some (if is_none x then Some p else None))) fits
 
-      on : (b : Bool) → cond (is_none c.ended && b) 1 0 ≡ cond b 1 0
-      on b = ap (λ o. cond (is_none o && b) 1 0) going
+      on : (b : Bool) → one_of (is_none c.ended && b) ≡ one_of b
+      on b = ap (λ (o : Option CoreFault). one_of (is_none o && b)) going
 
       go : (o : Option Reply) → first (no_peer p c ∷ not_down p c ∷ []) ≡ o → LineStarts line c (e ∷ [])
-      go None fits = One p e refl own fits (let a = is None fits ∙ on true in omega (arith, a))
-      go (Some reply) fits = Nobody (let a = is (Some reply) fits ∙ on false in omega (arith, a))
+      go None fits = One p e refl own fits (let a : one_start c e.0 ≡ 1 = is None fits ∙ on true in omega (arith, a))
+      go (Some reply) fits = Nobody (let a : one_start c e.0 ≡ 0 = is (Some reply) fits ∙ on false in omega (arith, a))
 
   line_starts : (name : List ℕ → Address) (at : LineAt) → at.core.ended ≡ None → AreOfLine name at (commands at.line) → AllIts commands at.line at.core at.events → LineStarts at.line at.core at.events
   line_starts name at going are its = by_asked (starts_or at.line at.core at.events its)
@@ -109,13 +113,13 @@ module _ (commands : ℕ → Option Command) (nobody : commands 0 ≡ None) wher
 -- ---- the lines of a run
 
 -- of each line whether it may have an entry
-pub heards : Core → List Events → List Bool
+abbrev pub heards : Core → List Events → List Bool
 heards c [] = []
 heards c (es ∷ rest) = (starts_in c es == 0) ∷ heards (steps c es) rest
 
 pub heards_long : (c : Core) (lines : List Events) → length (heards c lines) ≡ length lines
 heards_long c [] = refl
-heards_long c (es ∷ rest) = ap suc (heards_long (steps c es) rest)
+heards_long c (es ∷ rest) = let later : length (heards (steps c es) rest) ≡ length rest = heards_long (steps c es) rest in omega (arith, later)
 
 rest_lines : (s : Lined) (k : ℕ) (c : Core) (es : Events) (rest : List Events) → AreLines s k c (es ∷ rest) → AreLines s (k + 1) (steps c es) rest
 rest_lines s k c es [] are = tt
@@ -136,13 +140,13 @@ module _ (S : Script) (r : Ran) (story : Story) (went : Went S r story) where
   lines_sum k c [] are = omega arith
   lines_sum k c (es ∷ rest) are =
       let later : many (λ (b : Bool). b) (heards (steps c es) rest) + starts_in (steps c es) (all_events rest) ≤ length rest = lines_sum (k + 1) (steps c es) rest (rest_lines (lined S r) k c es rest are) in
-      let here : cond (starts_in c es == 0) 1 0 + starts_in c es ≤ 1 = by_line (starts_of k c es rest are) in
+      let here : one_of (starts_in c es == 0) + starts_in c es ≤ 1 = by_line (starts_of k c es rest are) in
       let all : starts_in c (es ++ all_events rest) ≡ starts_in c es + starts_in (steps c es) (all_events rest) = starts_both c es (all_events rest) in
       omega (arith, later, here, all)
     where
-      by_line : LineStarts (mute S.commands) refl k c es → cond (starts_in c es == 0) 1 0 + starts_in c es ≤ 1
-      by_line (Nobody none) = let most : cond (starts_in c es == 0) 1 0 ≤ 1 = most_one (starts_in c es == 0) in omega (arith, most, none)
-      by_line (One p e is own free one) = let zero_is : cond (starts_in c es == 0) 1 0 ≡ 0 = ap (λ n. cond (n == 0) 1 0) one in omega (arith, zero_is, one)
+      by_line : LineStarts (mute S.commands) refl k c es → one_of (starts_in c es == 0) + starts_in c es ≤ 1
+      by_line (Nobody none) = let most : one_of (starts_in c es == 0) ≤ 1 = most_one (starts_in c es == 0) in omega (arith, most, none)
+      by_line (One p e is own free one) = let zero_is : one_of (starts_in c es == 0) ≡ 0 = ap (λ (n : ℕ). one_of (n == 0)) one in omega (arith, zero_is, one)
 
   -- and no entry is of a line that started somebody
   unheard_from : (k : ℕ) (front : Events) (lines : List Events) → story.opening ++ all_events story.lines ≡ front ++ all_events lines → AreLines (lined S r) k (steps (first_core S.set story.found) front) lines
@@ -157,7 +161,7 @@ module _ (S : Script) (r : Ran) (story : Story) (went : Went S r story) where
       here = let same : k + 0 ≡ k = omega arith in subst (λ n. IsOfLine (told_of (last_core S story)) j n) same of
 
       by_line : LineStarts (mute S.commands) refl k (steps (first_core S.set story.found) front) es → ⊥
-      by_line (Nobody none) = let both : true ≡ false = sym (ap (λ n. n == 0) none) ∙ some in cc both
+      by_line (Nobody none) = let both : true ≡ false = sym (ap (λ (n : ℕ). n == 0) none) ∙ some in cc both
       by_line (One p e only own free one) = unheard S r story went p k front e (all_events rest) (is ∙ ap (λ xs. front ++ (xs ++ all_events rest)) only) own free j here
   unheard_from k front (es ∷ rest) is are (suc i) at j of =
       let same : steps opened (front ++ es) ≡ steps (steps opened front) es = steps_append opened front es in

@@ -1,8 +1,9 @@
 -- A good peer's list is a front of its lead's, and so is what a stop leaves of its disk at a moment of a run.
-use Rattle.std.proofs.Common.{◌≡◌, ◌∙◌, ap, sym, subst, refl, inl, inr, ℕ, ◌+◌, not, Bool, true, false, List, [], ◌∷◌, ◌++◌, Some, None, length, map}
+use Rattle.std.proofs.Common.{◌≡◌, ◌∙◌, ap, sym, subst, refl, inl, inr, ℕ, zero, suc, ◌+◌, not, Bool, true, false, List, [], ◌∷◌, ◌++◌, Some, None, length, map}
 use Rattle.std.proofs.lemmas.Bool.{cases_lt}
 use Rattle.std.proofs.lemmas.List.{append_assoc, map-append}
 use Rattle.std.specs.List.{enumerate_from}
+use Rattle.std.specs.Prelude.{drop, take}
 use Rattle.hs_cluster.proofs.GoingOnLemmas.{going_before}
 use Rattle.hs_cluster.proofs.StretchLemmas.{runs_core}
 use Rattle.hs_cluster.specs.Disks.{stands_of}
@@ -18,11 +19,12 @@ use Rattle.hs_core_copies.specs.Lists.{numbered}
 use Rattle.hs_core_words.specs.Looking.{home, lead_of, shape_of, status_of}
 use Rattle.hs_core_words.specs.State.{Core}
 use Rattle.hs_entry.specs.declared.entry.Entry.{Entry}
+use Rattle.hs_entry.specs.Entries.{rank_of}
 use Rattle.hs_events.specs.Course.{happened, steps}
 use Rattle.hs_events.specs.Due.{Events}
 use Rattle.hs_events.specs.Found.{Found, first_core}
 use Rattle.hs_events.specs.Taken.{peer_count}
-use Rattle.hs_events.specs.Whole.{Whole, counts, open_whole}
+use Rattle.hs_events.specs.Whole.{Whole, counts, open_whole, reach}
 use Rattle.hs_fold.specs.Images.{IsLeft}
 use Rattle.hs_fold.specs.Shards.Setting.{Numbered, Setting}
 use Rattle.hs_limits.specs.declared.limits.PeerStatus.TheVariants.{Down, Good}
@@ -38,6 +40,7 @@ use Rattle.hs_whole_copies.specs.Opening.{MayOpenWhole}
 use Rattle.hs_whole_copies.specs.Whole.{IsShardInStep, IsWholeInStep}
 use Rattle.hs_steady.proofs.PeerLemmas.{good_stage, reach_good}
 use Rattle.hs_steady.proofs.ShowLemmas.{opened_shows, stays_along}
+use Rattle.hs_steady.proofs.StampLemmas.{one_stamp}
 use Rattle.hs_steady.proofs.SteadyLemmas.{its_shard, past_down}
 use Rattle.hs_steady.specs.Moments.{IsMomentOf, ShowsOpened}
 
@@ -90,6 +93,31 @@ module _ (set : Setting) (found : Found) (events : Events) (span : Span) (shows 
       let first = opens_whole set found may opens in
       subst (λ x. (machines : ℕ → Copies Entry) × IsWholeInStep x machines) at.state (stays_along (open_whole set found) es first.0 first.1 goes)
 
+  pub fine_at : (peer : ℕ) → counts c peer ≡ true → (image : Side → List ℕ) → IsLeft (disk_at (stands_of span.left) peer) moment image → GivesFine whole_machine c peer image
+  fine_at peer counted image left =
+      subst (λ x. GivesFine whole_machine x peer image) at.state
+      (shown.moments.fine moment peer at.above at.up_to at.early (subst (λ x. counts x peer ≡ true) (sym at.state) counted) image left)
+
+  -- fronts of what two disks of a shard have
+  pub stamps_one : (peer other : ℕ) → IsPeer c.core.members.shape peer → home peer c.core ≡ home other c.core → counts c peer ≡ true → counts c other ≡ true
+      → (image its_image : Side → List ℕ) → IsLeft (disk_at (stands_of span.left) peer) moment image → IsLeft (disk_at (stands_of span.left) other) moment its_image
+      → (list more : Numbered) → list_in image ≡ Some list → list_in its_image ≡ Some more → (n m : ℕ) → rank_of (take n list) ≡ rank_of (take m more) → take n list ≡ take m more
+  stamps_one peer other low same one two image its_image left its_left list more read its_read n m rank =
+      one_stamp c in_step.0 in_step.1 peer other low same (take n list) (take m more) (front_of peer list image (fine_at peer one image left) read n) (front_of other more its_image (fine_at other two its_image its_left) its_read m) rank
+    where
+      parted : (n : ℕ) (xs : Numbered) → xs ≡ take n xs ++ drop n xs
+      parted zero xs = refl
+      parted (suc n) [] = refl
+      parted (suc n) (x ∷ xs) = ap (λ ys. x ∷ ys) (parted n xs)
+
+      front_of : (p : ℕ) (list : Numbered) (image : Side → List ℕ) → GivesFine whole_machine c p image → list_in image ≡ Some list → (n : ℕ) → IsFrontOf p (take n list) (reach c p)
+      front_of p list image fine read n =
+          let both : Some fine.list ≡ Some list = sym fine.read ∙ read in
+          let same : fine.list ≡ list = cc both in (
+            drop n list ++ fine.front.0,
+            fine.front.1 ∙ ap (λ xs. xs ++ fine.front.0) (same ∙ parted n list) ∙ append_assoc (take n list) (drop n list) fine.front.0,
+          )
+
   module _ (peer lead : ℕ) (good : status_of peer c.core ≡ Good) (leads : lead_of (home peer c.core) c.core ≡ Some lead) where
     within : IsPeer c.core.members.shape peer
     within = elim (cases_lt peer (peer_count (shape_of c.core))) [
@@ -110,9 +138,7 @@ module _ (set : Setting) (found : Found) (events : Events) (span : Span) (shows 
     pub begins_lead : (image : Side → List ℕ) → IsLeft (disk_at (stands_of span.left) peer) moment image → (list : Numbered) → list_in image ≡ Some list
         → IsFrontOf peer list (c.lists lead)
     begins_lead image left list read =
-        let fine : GivesFine whole_machine c peer image =
-        subst (λ x. GivesFine whole_machine x peer image) at.state
-        (shown.moments.fine moment peer at.above at.up_to at.early (subst (λ x. counts x peer ≡ true) (sym at.state) counted) image left) in
+        let fine : GivesFine whole_machine c peer image = fine_at peer counted image left in
         let both : Some list ≡ Some fine.list = sym read ∙ fine.read in
         let same : list ≡ fine.list = cc both in
         let more = begins_leads (home peer c.core) peer lead c (in_step.0 (home peer c.core)) shard refl good leads in

@@ -10,6 +10,7 @@ pub mod PeerLemmas
 pub mod QueueLemmas
 pub mod RunLemmas
 pub mod ShowLemmas
+pub mod StampLemmas
 pub mod SteadyLemmas
 pub mod TakenLemmas
 pub mod ToldLemmas

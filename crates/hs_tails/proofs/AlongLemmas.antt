@@ -126,11 +126,11 @@ module _ (s : Core) (e : Event) (seated : IsSeated s) (known : KnowsItsCopies s)
   aside_on a b (Views shard) = still a b refl refl (λ g. refl)
 
   -- the front of each shard is as it was where a peer falls or has joined
-  falls_front : (a : Core) → a.groups ≡ s.groups → a.members ≡ s.members → (g : ℕ) → front_of g a ≡ front_of g s
+  pub falls_front : (a : Core) → a.groups ≡ s.groups → a.members ≡ s.members → (g : ℕ) → front_of g a ≡ front_of g s
   falls_front a lists members g =
       ap (λ (x : Group). x.front) (ap (λ (gs : List Group). slice_index_or gs g (new_group (shape_of a) g 0 0 [])) lists ∙ ap (λ (m : Members). slice_index_or s.groups g (new_group m.shape g 0 0 [])) members)
 
-  joins_front : (a : Core) (peer : ℕ) → IsBehind s (Some e) a peer → (g : ℕ) → front_of g a ≡ front_of g s
+  pub joins_front : (a : Core) (peer : ℕ) → IsBehind s (Some e) a peer → (g : ℕ) → front_of g a ≡ front_of g s
   joins_front a peer (ByEmptying k is) g = ap (λ (x : Core). front_of g x) is ∙ (lists_aside (Empties peer k)).front g
   joins_front a peer (ByCopying number k is) g = ap (λ (x : Core). front_of g x) is ∙ (lists_aside (Copies peer number k)).front g
 
@@ -345,7 +345,7 @@ taken_first (x ∷ xs) ys = ap (λ zs. x ∷ zs) (taken_first xs ys)
 pub takes_first : ByViews → Steps → Entries → (by : Judging) → GivesAddresses by.name → (start : Store) → IsValid start → (core : Core) (event : Event) (moment : ℕ) (cs : List Folded)
     → core.ended ≡ None → IsSeated core → KnowsItsCopies core → HasRecordRoom core → core.refused ≡ [] → MayStand by start event core → IsStanding by start core cs → TakesFirst by start core (step event moment core) cs
 takes_first views steps laws by names start valid core event moment cs going seated known room clean may stands = record {
-  gone = record { after = last.cs; stands = last.stands; took = r.0; fronts = last.fronts; folds = last.folds; rests = last.rests };
+  gone = record { after = last.cs; stands = last.stands; took = r.0; fronts = last.fronts; folds = last.folds; rests = last.rests; history = last.history };
   first = λ g. sym (ap (λ (ws : List Entry). take (length (r.0 g)) ws) (r.1.listed g).parts ∙ taken_first (r.0 g) _);
 }
   where
@@ -364,7 +364,7 @@ takes_first views steps laws by names start valid core event moment cs going sea
     first_along : IsAlong by start Tail s cs (λ g. []) s
     first_along = record {
       gone = gone_start views steps laws by names start valid Tail (began_at s cs) s cs (λ g. refl) (λ g. refl) stands_s
-          (λ g tail rests. rests_alike by.name core s cs g tail (set_on by.name core s beside.limits beside.shape) (beside.front g) rests);
+          (λ g tail rests. rests_alike by.name core s cs g tail (set_on by.name core s beside.limits beside.shape) (beside.front g) rests) (λ h. h);
       listed = λ g. fresh_listed s g s (start_fresh s event (seated_begun event moment core seated) (knows_begun event moment core known) g);
     }
 

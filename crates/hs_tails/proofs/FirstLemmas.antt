@@ -53,11 +53,11 @@ listed_grown s took g a b p h =
 some_entry : (x y : Entry) → Some x ≡ Some y → x ≡ y
 some_entry x y e = cc e
 
-first_is : (entries : List Entry) (entry : Entry) → slice_get entries 0 ≡ Some entry → entries ≡ entry ∷ drop 1 entries
+pub first_is : (entries : List Entry) (entry : Entry) → slice_get entries 0 ≡ Some entry → entries ≡ entry ∷ drop 1 entries
 first_is [] entry e = absurd (cc e)
 first_is (x ∷ entries) entry e = ap (λ y. y ∷ entries) (some_entry x entry e)
 
-committed_known : (group : Group) (x : ℕ × Entry) → committed group ≡ Some x → group.front < commit_front group
+pub committed_known : (group : Group) (x : ℕ × Entry) → committed group ≡ Some x → group.front < commit_front group
 committed_known group x next = go (nat_lt group.front (commit_front group)) refl next
   where
     go : (b : Bool) → nat_lt group.front (commit_front group) ≡ b → cond b (option_map (λ (entry : Entry). (group.front + 1, entry)) (slice_get group.waiting 0)) None ≡ Some x → group.front < commit_front group

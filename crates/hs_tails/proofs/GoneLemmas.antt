@@ -54,8 +54,9 @@ use Rattle.hs_standing.specs.Copies.{AllComeOn, IsSeated, KnowsItsCopies}
 use Rattle.hs_standing.specs.Held.{GivesAddresses}
 use Rattle.hs_standing.specs.Legal.{IsStanding, MayStand}
 use Rattle.hs_standing.specs.Walks.{HasRecordRoom, Walks}
+use Rattle.hs_tails.proofs.AscendLemmas.{ascend_more, ascend_up}
 use Rattle.hs_tails.proofs.BehindLemmas.{first_taken, other_taken}
-use Rattle.hs_tails.specs.Tails.{RestsIn, TailRests, TailsGoOn}
+use Rattle.hs_tails.specs.Tails.{AreAscending, RestsIn, TailRests, TailsGoOn}
 
 -- how much took effect of each shard as it began, and the folds
 pub record Began : Type 0 where
@@ -69,13 +70,14 @@ began_at core cs = record { front = λ g. front_of g core; folds = cs }
 abbrev folded_with : (List ℕ → Address) → Began → Core → ℕ → List Entry → Folded
 folded_with name old core g entries = apply_all (shard_in (setting_of name core) g) (catalogue_at old.folds g) (enumerate_from (old.front g + 1) entries)
 
--- since then these entries of each shard took effect, which the folds have more, and of each tail that began with them the rest rests
+-- since then these entries of each shard took effect, which the folds have more, a history that gave the folds goes on with them, and of each tail that began with them the rest rests
 pub record GoneWith (by : Judging) (start : Store) (Tail : ℕ → List Entry → Type 0) (old : Began) (took : ℕ → List Entry) (core : Core) : Type 0 where
   pub cs : List Folded
   pub stands : IsStanding by start core cs
   pub fronts : (g : ℕ) → front_of g core ≡ old.front g + length (took g)
   pub folds : (g : ℕ) → catalogue_at cs g ≡ folded_with by.name old core g (took g)
   pub rests : (g : ℕ) (tail rest : List Entry) → Tail g tail → tail ≡ took g ++ rest → RestsIn by.name core cs g rest
+  pub history : AreAscending (setting_of by.name core) old.front old.folds → AreAscending (setting_of by.name core) (λ g. front_of g core) cs
 
 -- so some did
 abbrev GoneOn : Judging → Store → (ℕ → List Entry → Type 0) → Began → Core → Type 0
@@ -106,6 +108,8 @@ module _ (by : Judging) (start : Store) (Tail : ℕ → List Entry → Type 0) (
     fronts = λ g. front g ∙ q.fronts g;
     folds = λ g. q.folds g ∙ ap (λ (s : Setting). apply_all (shard_in s g) (catalogue_at old.folds g) (enumerate_from (old.front g + 1) (took g))) (sym set);
     rests = λ g tail rest is parts. rests_alike by.name a b q.cs g rest set (front g) (q.rests g tail rest is parts);
+    history = λ h. ascend_up (setting_of by.name b) (λ g. front_of g a) (λ g. front_of g b) q.cs (λ g. let same = front g in omega (arith, same))
+        (subst (λ (s : Setting). AreAscending s (λ g. front_of g a) q.cs) (sym set) (q.history (subst (λ (s : Setting). AreAscending s old.front old.folds) set h)));
   }
 
 module _ (views : ByViews) (steps : Steps) (laws : Entries) (by : Judging) (names : GivesAddresses by.name) (start : Store) (valid : IsValid start) (Tail : ℕ → List Entry → Type 0) (old : Began) where
@@ -176,6 +180,18 @@ module _ (views : ByViews) (steps : Steps) (laws : Entries) (by : Judging) (name
     folds_by g (inl is) = subst (λ k. catalogue_at (folds_behind by.name q.cs shard entry c) k ≡ folded_with by.name old (told_at_once shard entry c) k (took k ++ entry ∷ [])) (sym is) fold_here
     folds_by g (inr apart) = other-at empty_fold q.cs shard g (applied (setting_of by.name c) q.cs (next_deed shard entry c)) apart ∙ q.folds g ∙ same_set g (took g)
 
+    front_up : (g : ℕ) → front_of g c ≤ front_of g (told_at_once shard entry c)
+    front_up g = elim (one_or_other g shard) [
+      | inl is ↦ (let more : front_of g (told_at_once shard entry c) ≡ front_of g c + 1 = subst (λ k. front_of k (told_at_once shard entry c) ≡ front_of k c + 1) (sym is) front_here in omega (arith, more))
+      | inr apart ↦ (let same = front_other g apart in omega (arith, same))
+    ]
+
+    history_on : AreAscending (setting_of by.name (told_at_once shard entry c)) old.front old.folds → AreAscending (setting_of by.name (told_at_once shard entry c)) (λ g. front_of g (told_at_once shard entry c)) (folds_behind by.name q.cs shard entry c)
+    history_on h =
+        subst (λ (s : Setting). AreAscending s (λ g. front_of g (told_at_once shard entry c)) (folds_behind by.name q.cs shard entry c)) (sym (told_set by.name c shard entry))
+        (ascend_more (setting_of by.name c) (λ g. front_of g c) (λ g. front_of g (told_at_once shard entry c)) q.cs (next_deed shard entry c) may refl front_up (let more = front_here in omega (arith, more))
+        (q.history (subst (λ (s : Setting). AreAscending s old.front old.folds) (told_set by.name c shard entry) h)))
+
     pub effect_goes : GoneWith by start Tail old (took_more took shard entry) (told_at_once shard entry c)
     effect_goes = record {
       cs = folds_behind by.name q.cs shard entry c;
@@ -183,6 +199,7 @@ module _ (views : ByViews) (steps : Steps) (laws : Entries) (by : Judging) (name
       fronts = λ g. fronts_by g (one_or_other g shard);
       folds = λ g. folds_by g (one_or_other g shard);
       rests = λ g tail rest of parts. rests_by g (one_or_other g shard) tail rest of parts;
+      history = history_on;
     }
 
   -- ---- every change
@@ -227,13 +244,15 @@ module _ (views : ByViews) (steps : Steps) (laws : Entries) (by : Judging) (name
   gone_step core event moment going seated known room clean may q =
       copies_step gone_walks core (λ shard c same low more g. view_goes shard c low g) event moment going seated known room clean may q
 
-  pub gone_start : (core : Core) (cs : List Folded) → ((g : ℕ) → front_of g core ≡ old.front g) → ((g : ℕ) → catalogue_at cs g ≡ catalogue_at old.folds g) → IsStanding by start core cs → ((g : ℕ) (tail : List Entry) → Tail g tail → RestsIn by.name core cs g tail) → GoneWith by start Tail old (λ g. []) core
-  gone_start core cs same folds stands all = record {
+  pub gone_start : (core : Core) (cs : List Folded) → ((g : ℕ) → front_of g core ≡ old.front g) → ((g : ℕ) → catalogue_at cs g ≡ catalogue_at old.folds g) → IsStanding by start core cs → ((g : ℕ) (tail : List Entry) → Tail g tail → RestsIn by.name core cs g tail)
+      → (AreAscending (setting_of by.name core) old.front old.folds → AreAscending (setting_of by.name core) (λ g. front_of g core) cs) → GoneWith by start Tail old (λ g. []) core
+  gone_start core cs same folds stands all came = record {
     cs = cs;
     stands = stands;
     fronts = λ g. (let is = same g in omega (arith, is));
     folds = λ g. folds g;
     rests = λ g tail rest of parts. subst (λ t. RestsIn by.name core cs g t) parts (all g tail of);
+    history = λ h. came h;
   }
 
 pub tails_go_on : ByViews → Steps → Entries → (by : Judging) → GivesAddresses by.name → (start : Store) → IsValid start → (core : Core) (event : Event) (moment : ℕ) (cs : List Folded)
@@ -242,8 +261,8 @@ tails_go_on views steps laws by names start valid core event moment cs going sea
     let Tail : ℕ → List Entry → Type 0 = λ g tail. RestsIn by.name core cs g tail in
     let began : Began = began_at core cs in
     let q : GoneOn by start Tail began (step event moment core) =
-    gone_step views steps laws by names start valid Tail began core event moment going seated known room clean may ((λ g. []), gone_start views steps laws by names start valid Tail began core cs (λ g. refl) (λ g. refl) stands (λ g tail of. of)) in
-    record { after = q.1.cs; stands = q.1.stands; took = q.0; fronts = q.1.fronts; folds = q.1.folds; rests = q.1.rests }
+    gone_step views steps laws by names start valid Tail began core event moment going seated known room clean may ((λ g. []), gone_start views steps laws by names start valid Tail began core cs (λ g. refl) (λ g. refl) stands (λ g tail of. of) (λ h. h)) in
+    record { after = q.1.cs; stands = q.1.stands; took = q.0; fronts = q.1.fronts; folds = q.1.folds; rests = q.1.rests; history = q.1.history }
 
 -- so do some, one after another
 pub all_tails_go_on : ByViews → Steps → Entries → (by : Judging) → GivesAddresses by.name → (start : Store) → IsValid start → (core : Core) (events : Events) (cs : List Folded)
@@ -253,5 +272,5 @@ all_tails_go_on views steps laws by names start valid core events cs clean told 
     let began : Began = began_at core cs in
     let q : GoneOn by start Tail began (run_events core events) =
     copies_steps (gone_walks views steps laws by names start valid Tail began) (λ shape shard c same low more g. view_goes views steps laws by names start valid Tail began shard c low g) events core clean told may
-    ((λ g. []), gone_start views steps laws by names start valid Tail began core cs (λ g. refl) (λ g. refl) stands (λ g tail of. of)) in
-    record { after = q.1.cs; stands = q.1.stands; took = q.0; fronts = q.1.fronts; folds = q.1.folds; rests = q.1.rests }
+    ((λ g. []), gone_start views steps laws by names start valid Tail began core cs (λ g. refl) (λ g. refl) stands (λ g tail of. of) (λ h. h)) in
+    record { after = q.1.cs; stands = q.1.stands; took = q.0; fronts = q.1.fronts; folds = q.1.folds; rests = q.1.rests; history = q.1.history }

@@ -1,12 +1,30 @@
 pub mod AlongLemmas
+pub mod AscendLemmas
+pub mod BeginLemmas
 pub mod BehindLemmas
 pub mod ChosenLemmas
-mod Examples
 pub mod ComingLemmas
+pub mod EntryLemmas
+mod Examples
+pub mod FineLemmas
 pub mod FirstLemmas
 pub mod FrontLemmas
 pub mod GoingLemmas
 pub mod GoneLemmas
 pub mod KnownLemmas
 pub mod LineLemmas
+pub mod LinedLemmas
+pub mod LinedWalk
+pub mod MomentLemmas
+pub mod MovedLemmas
+pub mod OpenFirstLemmas
+pub mod OpenLinesLemmas
+pub mod RankLemmas
+pub mod ReachLemmas
+pub mod SameViewLemmas
+pub mod StampedLemmas
+pub mod StandsLemmas
+pub mod StepLemmas
+pub mod TellingLemmas
+pub mod ViewLemmas
 pub mod WaitsLemmas

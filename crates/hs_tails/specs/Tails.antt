@@ -1,6 +1,6 @@
 -- Tails: what a list of a shard has behind all that took effect, whichever peer has it.
 use Rattle.std.specs.List.{enumerate_from}
-use Rattle.std.specs.Prelude.{◌≡◌, ℕ, ◌+◌, ◌++◌, ◌≤◌, List, Option, Some, None, true, count_by, length, slice_get, take}
+use Rattle.std.specs.Prelude.{◌≡◌, ℕ, ◌+◌, ◌++◌, ◌≤◌, All, AllPairs, List, Option, Some, None, true, count_by, length, slice_get, take}
 use Rattle.hs_answered.specs.Telling.{Judging}
 use Rattle.hs_awaiting.specs.declared.waiting.Waiting.{Waiting}
 use Rattle.hs_core_words.specs.declared.event.Event.{Event}
@@ -12,12 +12,15 @@ use Rattle.hs_effects.specs.Lawful.{AreOfHistory}
 use Rattle.hs_effects.specs.Logged.{asked_by}
 use Rattle.hs_effects.specs.Taking.{setting_of}
 use Rattle.hs_entry.specs.declared.entry.Entry.{Entry}
+use Rattle.hs_fold.specs.Lawful.{Ascends, Deed}
 use Rattle.hs_fold.specs.Runs.Catalogue.{apply_all}
 use Rattle.hs_fold.specs.Runs.Facts.{Catalogue as Folded}
 use Rattle.hs_fold.specs.Runs.Fits.{catalogue_at}
+use Rattle.hs_fold.specs.Runs.History.{FitAll, follow_all, no_entries}
 use Rattle.hs_fold.specs.Runs.Rounds.{is_accepted}
 use Rattle.hs_fold.specs.Shards.Setting.{Setting, shard_in}
 use Rattle.hs_fold.specs.Shards.Sound.{most_records}
+use Rattle.hs_joint.specs.Along.{KeepFewRecords}
 use Rattle.hs_limits.specs.declared.address.Address.{Address}
 use Rattle.hs_model.specs.declared.op.Op.{Op}
 use Rattle.hs_model.specs.declared.reply.Reply.{Reply}
@@ -71,7 +74,16 @@ pub record IsAnswered (old new : Core) (line : ℕ) : Type 0 where
 abbrev pub AnswersNone : Core → Core → List Entry → Type 0
 AnswersNone old new tail = (at line : ℕ) (entry : Entry) → slice_get tail at ≡ Some entry → asked_by entry ≡ Some line → IsAnswered old new line → ⊥
 
--- a core has become one that stands with some folds; some entries of each shard took effect meanwhile, which the folds behind have more; and of each tail that rested on these folds and began with them the rest rests
+-- a lawful history gives these folds, in which the numbers of each shard ascend, up to so many at most
+pub record AreAscending (set : Setting) (front : ℕ → ℕ) (cs : List Folded) : Type 0 where
+  pub history : List Deed
+  pub ascends : AllPairs Ascends history
+  pub within : All (λ deed. deed.number ≤ front deed.shard) history
+  pub fits : FitAll set (no_entries set) history
+  pub records : KeepFewRecords set (no_entries set) history
+  pub gives : follow_all set (no_entries set) history ≡ cs
+
+-- a core has become one that stands with some folds; some entries of each shard took effect meanwhile, which the folds behind have more, and a history that gave the folds goes on with them; and of each tail that rested on these folds and began with them the rest rests
 pub record TailsGoOn (by : Judging) (start : Store) (old new : Core) (cs : List Folded) : Type 0 where
   pub after : List Folded
   pub stands : IsStanding by start new after
@@ -79,6 +91,7 @@ pub record TailsGoOn (by : Judging) (start : Store) (old new : Core) (cs : List 
   pub fronts : (shard : ℕ) → front_of shard new ≡ front_of shard old + length (took shard)
   pub folds : (shard : ℕ) → catalogue_at after shard ≡ apply_all (shard_in (setting_of by.name new) shard) (catalogue_at cs shard) (enumerate_from (front_of shard old + 1) (took shard))
   pub rests : (shard : ℕ) (tail rest : List Entry) → RestsIn by.name old cs shard tail → tail ≡ took shard ++ rest → RestsIn by.name new after shard rest
+  pub history : AreAscending (setting_of by.name new) (λ shard. front_of shard old) cs → AreAscending (setting_of by.name new) (λ shard. front_of shard new) after
 
 -- so by one event: what took effect waited first as it came
 pub record TakesFirst (by : Judging) (start : Store) (old new : Core) (cs : List Folded) : Type 0 where

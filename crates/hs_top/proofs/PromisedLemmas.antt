@@ -60,7 +60,7 @@ module _ (laws : Laws) (tells : Type 0) (S : Script) (r : Ran) (names : GivesAdd
 
   -- how long a peer is good
   good_by : (how : Option Story) → WentAs S r how → IsGoodUntold S r
-  good_by None went past m peer during low untold none its = absurd (never_past r went past)
+  good_by None went = λ past m peer during low untold none its. absurd (never_past r went past)
   good_by (Some story) went = laws.good S r story went (λ one m peer above low start.
       let count : S.set.shape.shards * S.set.shape.copies ≡ S.set.shape.shards = ap (λ n. S.set.shape.shards * n) one ∙ omega arith in
       let within : peer < S.set.shape.shards * S.set.shape.copies = low in
