@@ -32,11 +32,6 @@ pub record CopiesPlainly (tells : Type 0) (name : List ℕ → Address) (shapes 
   pub done : r.ending ≡ status.Done → HasRootOf tells name shapes key r
   pub refusal : (told : Reply) → r.ending ≡ status.Refused told → (told ≡ reply.NoKey key) ⊎ IsCopyRefusal key told
 
--- with what the command itself promises, all that is promised of it
-pub record CopiesAndKeeps (tells : Type 0) (name : List ℕ → Address) (shapes : Shapes) (key : List ℕ) (every : Option ℕ) (r : Ran) : Type 0 where
-  pub copies : CopiesRoot tells name shapes key every r
-  pub plainly : tells → shapes.first.copies ≡ 1 → shapes.second.copies ≡ 1 → AreSoundStarts name shapes r → CopiesPlainly tells name shapes key r
-
 -- ---- the first store
 
 -- of what was asked of the first store nothing was answered; or it is a legal run of the plain store, behind which it has each root and block that a root kept at its opening
@@ -44,3 +39,11 @@ pub data FirstStays (tells : Type 0) (name : List ℕ → Address) (shapes : Sha
   Unasked : IsUnanswered (in_first shapes.first r.ending r) → FirstStays tells name shapes r
   Asked : (one : Ran) → IsInFirst shapes.first r one → (reads : ℕ → Option Command) → AsksPlainly tells name shapes.first one reads
       → KeepsItsOwn (store_before name shapes.first one) (store_behind name shapes.first reads one) → FirstStays tells name shapes r
+
+-- ---- all that is promised
+
+-- with what the command itself promises, all that is promised of it
+pub record CopiesAndKeeps (tells : Type 0) (name : List ℕ → Address) (shapes : Shapes) (key : List ℕ) (every : Option ℕ) (r : Ran) : Type 0 where
+  pub copies : CopiesRoot tells name shapes key every r
+  pub plainly : tells → shapes.first.copies ≡ 1 → shapes.second.copies ≡ 1 → AreSoundStarts name shapes r → CopiesPlainly tells name shapes key r
+  pub stays : tells → shapes.first.copies ≡ 1 → IsSoundStart name shapes.first (in_first shapes.first r.ending r) → FirstStays tells name shapes r

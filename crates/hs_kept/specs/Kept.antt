@@ -5,7 +5,6 @@ use Rattle.hs_desk.specs.declared.fault.CoreFault.{CoreFault}
 use Rattle.hs_events.specs.Taken.{or_blank, taken_lists}
 use Rattle.hs_files.specs.Client.{beneath, client_script}
 use Rattle.hs_files.specs.Fetched.{FetchesFile}
-use Rattle.hs_files.specs.Stored.{StoresFile}
 use Rattle.hs_fold.specs.Runs.Opened.{opened}
 use Rattle.hs_fold.specs.Shards.Setting.{Numbered, Setting}
 use Rattle.hs_founded.specs.Spelled.{HoldBytes}
@@ -117,11 +116,7 @@ pub record FetchesPlainly (tells : Type 0) (name : List ℕ → Address) (shape 
   pub refused : (told : Reply) → r.ending ≡ status.Refused told → HasNothing tells name shape key r
   pub no_file : (address : Address) → r.ending ≡ status.NotATree address → HasNoFile tells name shape key r address
 
--- ---- all that is promised of either
-
-pub record StoresAndKeeps (tells : Type 0) (name : List ℕ → Address) (shape : Shape) (key : List ℕ) (r : Ran) : Type 0 where
-  pub stores : StoresFile tells name shape key r
-  pub plainly : tells → shape.copies ≡ 1 → IsSoundStart name shape r → StoresPlainly tells name shape key r
+-- ---- all that is promised of it
 
 pub record FetchesAndGives (tells : Type 0) (name : List ℕ → Address) (shape : Shape) (key : List ℕ) (r : Ran) : Type 0 where
   pub fetches : FetchesFile tells name shape key r

@@ -4,6 +4,7 @@ use Rattle.hs_asker.specs.Silent.{status_by}
 use Rattle.hs_events.specs.Found.{first_core}
 use Rattle.hs_events.specs.Taken.{or_blank}
 use Rattle.hs_files.specs.Client.{IsUnanswered, beneath, client_script}
+use Rattle.hs_files.specs.Stored.{StoresFile}
 use Rattle.hs_fold.specs.Runs.Opened.{opened}
 use Rattle.hs_fold.specs.Shards.Images.{AreGoodImages, Image}
 use Rattle.hs_limits.specs.declared.address.Address.{Address}
@@ -18,7 +19,7 @@ use Rattle.hs_promise.specs.Stops.{image_logs, stop_at}
 use Rattle.hs_promise.specs.Story.{Story}
 use Rattle.hs_run.specs.Machine.{IsOfCluster}
 use Rattle.hs_tree.specs.Trees.{IsStored}
-use Rattle.hs_kept.specs.Kept.{AsksPlainly, set_of, store_before, store_behind}
+use Rattle.hs_kept.specs.Kept.{AsksPlainly, IsSoundStart, StoresPlainly, set_of, store_before, store_behind}
 
 -- a key keeps what it kept, or a file whole, of which the source had no more
 abbrev pub KeepsWhole : (List ℕ → Address) → Store → List ℕ → List ℕ → Option (List ℕ) → Store → Type 0
@@ -49,3 +50,9 @@ pub record KeepsKeyWhole (tells : Type 0) (name : List ℕ → Address) (shape :
 -- nothing was asked for and answered, or so it is
 abbrev pub EndsWhole : Type 0 → (List ℕ → Address) → Shape → List ℕ → Ran → Type 0
 EndsWhole tells name shape key r = IsUnanswered r ⊎ KeepsKeyWhole tells name shape key r
+
+-- all that is promised of a store
+pub record StoresAndKeeps (tells : Type 0) (name : List ℕ → Address) (shape : Shape) (key : List ℕ) (r : Ran) : Type 0 where
+  pub stores : StoresFile tells name shape key r
+  pub plainly : tells → shape.copies ≡ 1 → IsSoundStart name shape r → StoresPlainly tells name shape key r
+  pub whole : tells → shape.copies ≡ 1 → IsSoundStart name shape r → EndsWhole tells name shape key r
