@@ -44,13 +44,13 @@ any_same p q [] h = refl
 any_same p q (x ∷ xs) h = λ i. h x i || any_same p q xs h i
 
 -- what some passes there is
-record Passes (p : ℕ → Bool) (k n : ℕ) : Type 0 where
-  at : ℕ
-  from : k ≤ at
-  to : at < k + n
-  is : p at ≡ true
+pub record Passes (p : ℕ → Bool) (k n : ℕ) : Type 0 where
+  pub at : ℕ
+  pub from : k ≤ at
+  pub to : at < k + n
+  pub is : p at ≡ true
 
-passes_some : (p : ℕ → Bool) (k n : ℕ) → list_any p (range_with_len k n) ≡ true → Passes p k n
+pub passes_some : (p : ℕ → Bool) (k n : ℕ) → list_any p (range_with_len k n) ≡ true → Passes p k n
 passes_some p k zero e = absurd (false≢true e)
 passes_some p k (suc n) e = go (λ rest. passes_some p (k + 1) n rest) (p k) refl e
   where
@@ -137,7 +137,7 @@ module _ (S : Script) (found : Found) (shape : IsShape S.set.shape) (count : len
 
   -- ---- what the first items are
 
-  abbrev number_in : ℕ → ℕ
+  abbrev pub number_in : ℕ → ℕ
   number_in k = (rank_of (taken_list S.set.shape found.logs k)).number
 
   pub rows_in : (entry : ℕ) → taken_items S.set.shape found.logs entry ≡ rows (λ k. peer_in k) (λ k. number_in k) entry 0 S.set.shape.shards

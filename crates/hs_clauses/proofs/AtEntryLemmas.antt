@@ -30,12 +30,12 @@ OpensAtEntry S r story = taken_lists S.set.shape (entry_logs S r) ≡ whole_from
 
 -- ---- lists by shard
 
-chosen_long : (n copies : ℕ) (lists : List Numbered) → length (chosen_each n copies lists) ≡ n
+pub chosen_long : (n copies : ℕ) (lists : List Numbered) → length (chosen_each n copies lists) ≡ n
 chosen_long zero copies lists = refl
 chosen_long (suc n) copies lists = ap (λ k. suc k) (chosen_long n copies (drop copies lists))
 
 -- lists are the whole lists of so many shards where each is
-as_whole : (lists : Lists) (xs : List Numbered) (k n : ℕ) → length xs ≡ n → ((j p : ℕ) → j < n → p ≡ k + j → slice_index_or xs j [] ≡ lists.whole p) → xs ≡ whole_from lists k n
+pub as_whole : (lists : Lists) (xs : List Numbered) (k n : ℕ) → length xs ≡ n → ((j p : ℕ) → j < n → p ≡ k + j → slice_index_or xs j [] ≡ lists.whole p) → xs ≡ whole_from lists k n
 as_whole lists [] k zero long h = refl
 as_whole lists [] k (suc n) long h = absurd (omega (arith, long))
 as_whole lists (x ∷ xs) k zero long h = absurd (omega (arith, long))
@@ -109,13 +109,13 @@ module _ (S : Script) (r : Ran) (story : Story) (went : Went S r story) (read : 
     blank_read : (p : ℕ) → p < peer_count S.set.shape → slice_index_or (or_blank story.found.logs) p [] ≡ read_list p
     blank_read p less = get_or-map (λ (log : Option Numbered). unwrap_or log []) story.found.logs p None [] (let n = went.found.logs in omega (arith, n, less))
 
-    taken_is : taken_list S.set.shape story.found.logs shard ≡ read_list taken.at
+    pub taken_is : taken_list S.set.shape story.found.logs shard ≡ read_list taken.at
     taken_is =
         counts_still S.set.shape story.found.logs went.found.logs shard low numbered taken (or_blank story.found.logs)
         (length-map story.found.logs (λ (log : Option Numbered). unwrap_or log []) ∙ went.found.logs) (blank_read taken.at (inside taken.at taken.from taken.to))
         (λ p from to. inl (blank_read p (inside p from to)))
 
-    opened_is : opened_list S.set story.found shard ≡ read_list taken.at
+    pub opened_is : opened_list S.set story.found shard ≡ read_list taken.at
     opened_is = ap (λ b. if b then taken_list S.set.shape story.found.logs shard else []) (some_good S story.found shape went.found.logs went.found.kept going shard low) ∙ taken_is
 
     -- of what counts at entry

@@ -71,13 +71,13 @@ module _ (S : Script) (r : Ran) (story : Story) (went : Went S r story) (fault :
   opening_is : story.opening ≡ []
   opening_is = opening_none (opening_is_whole r story.lines) (first_core S.set story.found) story.opening fault ended went.opening
 
-  lines_are : story.lines ≡ []
+  pub lines_are : story.lines ≡ []
   lines_are = lines_none S r 1 (steps (first_core S.set story.found) story.opening) story.lines fault (ap (λ (es : Events). (steps (first_core S.set story.found) es).ended) opening_is ∙ ended) went.lines
 
   no_event : all_events story ≡ []
   no_event = λ i. opening_is i ++ flat_map (λ (line : Events). line) (lines_are i)
 
-  last_is : last_core S story ≡ first_core S.set story.found
+  pub last_is : last_core S story ≡ first_core S.set story.found
   last_is = ap (λ (es : Events). steps (first_core S.set story.found) es) no_event
 
   course_is : r.course ≡ first_items S.set.shape story.found r.old.moment

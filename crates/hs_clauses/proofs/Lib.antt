@@ -8,6 +8,11 @@ pub mod AwaitLemmas
 pub mod BlockLemmas
 pub mod CaseLemmas
 pub mod ComingLemmas
+pub mod CopiesCoreLemmas
+pub mod CopiesCourseLemmas
+pub mod CopiesEarlyLemmas
+pub mod CopiesShownLemmas
+pub mod CopiesStopLemmas
 pub mod CountedLemmas
 pub mod CourseLemmas
 pub mod EndedLemmas
@@ -20,8 +25,8 @@ pub mod FrontLemmas
 pub mod GreatestLemmas
 pub mod HomeLemmas
 pub mod HomeWalk
-pub mod InStepReadLemmas
 pub mod ImageLemmas
+pub mod InStepReadLemmas
 pub mod KeptLemmas
 pub mod KeptRunLemmas
 pub mod LineLemmas
@@ -31,6 +36,7 @@ pub mod NoteLemmas
 pub mod NumberLemmas
 pub mod NumberedLemmas
 pub mod OpenLemmas
+pub mod PastLemmas
 pub mod ReadLemmas
 pub mod ReadsListLemmas
 pub mod ReadyLemmas

@@ -30,7 +30,7 @@ use Rattle.hs_top.proofs.FromEntryLemmas.{from_entry, led, whole}
 use Rattle.hs_top.proofs.LawLemmas.{Laws}
 use Rattle.hs_top.proofs.NoteLemmas.{WhyAside, failed_by, never_aside, why_aside}
 use Rattle.hs_top.proofs.RankLemmas.{ranked_by}
-use Rattle.hs_top.proofs.PastLemmas.{never_past}
+use Rattle.hs_clauses.proofs.PastLemmas.{never_past}
 use Rattle.hs_top.specs.Calls.{FromEntry, Promised, PromisedAlone, PromisedWhereTold}
 
 module _ (laws : Laws) (tells : Type 0) (S : Script) (r : Ran) (names : GivesAddresses S.set.name) (asked : r.ending ≡ status.Usage → ⊥) (cluster : IsOfCluster tells S r) where
