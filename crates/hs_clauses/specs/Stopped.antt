@@ -1,6 +1,6 @@
 -- A run of any number of copies that may be stopped: what its disks show from entry to its end, and that each shard keeps a good peer.
 use Rattle.std.specs.List.{list_any}
-use Rattle.std.specs.Prelude.{List, None, Option, Some, false, length, true, ℕ, ◌++◌, ◌+◌, ◌-◌, ◌<◌, ◌^◌, ◌≡◌, ◌≤◌}
+use Rattle.std.specs.Prelude.{List, None, Option, Some, false, length, true, ℕ, ◌++◌, ◌+◌, ◌-◌, ◌<◌, ◌^◌, ◌≡◌, ◌≤◌, ◌⊎◌}
 use Rattle.hs_clauses.specs.Shown.{HasItsDisks, IsToldAs}
 use Rattle.hs_events.specs.Course.{happened}
 use Rattle.hs_events.specs.Found.{first_core}
@@ -70,3 +70,7 @@ NoneReturns S r =
 pub record KeepsCopies (S : Script) (r : Ran) : Type 0 where
   pub past : IsPast r 0
   pub returns : NoneReturns S r
+
+-- so it is; with one copy of each shard nothing is asked
+abbrev pub MayLosePeers : Script → Ran → Type 0
+MayLosePeers S r = (S.set.shape.copies ≡ 1) ⊎ KeepsCopies S r
