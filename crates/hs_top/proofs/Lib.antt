@@ -1,4 +1,5 @@
 pub mod AgainLemmas
+pub mod AsideLemmas
 pub mod CalledLemmas
 pub mod EndLemmas
 pub mod FromEntryLemmas

@@ -16,7 +16,7 @@ ghost use Rattle.hs_promise.specs.Untold.{NoneFails};
 ghost use Rattle.hs_run.specs.Machine.{IsOfCluster};
 ghost use Rattle.hs_standing.specs.Held.{GivesAddresses};
 ghost use Rattle.hs_top.specs.Next.{Follows, script_after};
-ghost use Rattle.hs_top.specs.Rest.{AreAtRest, EndsAtRest, HasOneList, IsAtRest};
+ghost use Rattle.hs_top.specs.Rest.{AreAtRest, EndsAtRest, HasOneList, IsAtRest, KeepsGoodImages};
 
 use hs_clauses::a_run_may_stop;
 use hs_ports::Disk;
@@ -25,7 +25,8 @@ use hs_sound::waiting_lists_are_sound_with_runs;
 
 /// A run may begin on blank disks at rest, and on any images that count of a stop of an earlier run:
 /// what is asked at entry of what a stop leaves holds there, whatever the limits of the run. One whose
-/// opening sets no peer aside has all of them (`stopped`). A store of one shard of one copy needs no such
+/// opening sets no peer aside has all of them (`stopped`); so has one that sets peers aside, as long as each
+/// shard keeps a peer that was good at the stop (`kept`). A store of one shard of one copy needs no such
 /// premise: where its only peer is set aside the run begins with a blank list (`alone`).
 pub fn a_run_may_begin()
     ensures blank { (S : Script) (images : ℕ → Image) (r : Ran) → 0 < S.set.shape.shards
@@ -39,6 +40,15 @@ pub fn a_run_may_begin()
         → length next.old.disks ≡ length images
         → ((peer : ℕ) → peer < length next.old.disks
         → is_aside (script_after S limits commands) next peer ≡ false)
+        → MayStop (script_after S limits commands) next }
+    ensures kept { (S : Script) (entry : Store) (r : Ran) (m : ℕ) (images : List Image)
+        → Stops S entry r → IsDuring r.old r.new m
+        → AreGoodImages S.set.shape (stop_at S r m) images
+        → (limits : Limits) (commands : ℕ → Option Command) (next : Ran)
+        → AreAtRest (λ peer. image_at images peer) next.old
+        → length next.old.disks ≡ length images
+        → KeepsGoodImages S.set.shape (stop_at S r m) images
+        (is_aside (script_after S limits commands) next)
         → MayStop (script_after S limits commands) next }
     ensures alone { (S : Script) (entry : Store) (r : Ran) (m : ℕ) (images : List Image)
         → S.set.shape.shards ≡ 1 → S.set.shape.copies ≡ 1
