@@ -6,7 +6,7 @@ use Rattle.std.specs.List.{AllByRecursion, list_any}
 use Rattle.std.specs.Option.{option_map}
 use Rattle.std.specs.Prelude.{filter, if◌then◌else◌}
 use Rattle.hs_anatomy.specs.Acts.{begun}
-use Rattle.hs_clauses.proofs.AsideLemmas.{number_in, peer_in, peer_is, some_good, status_is, taken_at, taken_begins, taken_of}
+use Rattle.hs_clauses.proofs.AsideLemmas.{EachTaken, each_taken, some_good, status_is, taken_at, taken_begins}
 use Rattle.hs_clauses.proofs.CopiesCourseLemmas.{first_good, first_took}
 use Rattle.hs_clauses.proofs.CourseLemmas.{some_course}
 use Rattle.hs_clauses.proofs.GreatestLemmas.{within}
@@ -153,6 +153,32 @@ pub steps_shape : (c : Core) (es : Events) → (steps c es).members.shape ≡ c.
 steps_shape c [] = refl
 steps_shape c (e ∷ es) = steps_shape (step e.0 e.1 c) es ∙ shape_at c e.0 e.1
 
+-- ---- the course that counts
+
+module _ (S : Script) (r : Ran) (story : Story) (went : Went S r story) (shape : IsShape S.set.shape) (there : EachTaken S story.found) where
+  has_shard : 0 < S.set.shape.shards
+  has_shard = some_shard S.set.shape.shards shape.shards
+
+  not_empty : (length r.course == 0) ≡ false
+  not_empty =
+      let t = there 0 has_shard in
+      let high = t.to in
+      let w = within S.set.shape story.found.logs went.found.logs 0 has_shard in
+      some_course (S.set.shape.shards + S.set.shape.shards) t.at r.course
+      (ap (λ (items : List CourseItem). begins S.set.shape.shards items t.at) went.course
+      ∙ taken_begins S story.found shape there r.old.moment (items_of (first_core S.set story.found) (all_events story)) t.at (omega (arith, high, w))
+      (taken_at S story.found shape there 0 has_shard))
+
+  -- is that of the run
+  pub counted_by : counted_course S r ≡ r.course
+  counted_by =
+      ap (λ b. if (ending_of r.ending).wanting && b then filter (still_counts r) (taken_items S.set.shape (entry_logs S r) r.old.moment) else r.course) not_empty
+      ∙ none (ending_of r.ending).wanting
+    where
+      none : (w : Bool) → (if w && false then filter (still_counts r) (taken_items S.set.shape (entry_logs S r) r.old.moment) else r.course) ≡ r.course
+      none true = refl
+      none false = refl
+
 -- ---- a run
 
 module _ (S : Script) (r : Ran) (story : Story) (went : Went S r story) (shape : IsShape S.set.shape) (going : (first_core S.set story.found).ended ≡ None) where
@@ -165,10 +191,16 @@ module _ (S : Script) (r : Ran) (story : Story) (went : Went S r story) (shape :
   abbrev fresh : Core
   fresh = new_core S.set.shape S.set.limits (opens_with S.set story.found) story.found.opened
 
+  there : EachTaken S story.found
+  there = each_taken S story.found shape went.found.logs went.found.kept going
+
+  pub counted_is : counted_course S r ≡ r.course
+  counted_is = counted_by S r story went shape there
+
   -- ---- as it opens
 
   pub good_first : (p : ℕ) → is_good_status (status_of p (first_core S.set story.found)) ≡ starts_good story.found p
-  good_first p = ap (λ (m : Members). is_good_status (status p m)) (opens S.set story.found).members ∙ status_is S story.found shape went.found.logs went.found.kept going p
+  good_first p = ap (λ (m : Members). is_good_status (status p m)) (opens S.set story.found).members ∙ status_is S story.found p
 
   peer_first : (p : ℕ) → p < peer_count S.set.shape → p < (first_core S.set story.found).members.shape.shards * (first_core S.set story.found).members.shape.copies
   peer_first p low = subst (λ (m : Members). p < m.shape.shards * m.shape.copies) (sym (opens S.set story.found).members) low
@@ -194,30 +226,6 @@ module _ (S : Script) (r : Ran) (story : Story) (went : Went S r story) (shape :
       subst (λ (js : List JournalEntry). AreAllAt story.found.opened js) (sym is)
       (recursion_from_All (λ (entry : JournalEntry). entry.moment ≡ story.found.opened) (kept_entries d) (kept_at story.found.opened d (opening_told fresh refl)))
 
-  -- ---- the course that counts
-
-  has_shard : 0 < S.set.shape.shards
-  has_shard = some_shard S.set.shape.shards shape.shards
-
-  not_empty : (length r.course == 0) ≡ false
-  not_empty =
-      let t = taken_of S story.found shape went.found.logs went.found.kept going 0 has_shard in
-      let high = t.to in
-      let w = within S.set.shape story.found.logs went.found.logs 0 has_shard in
-      some_course (S.set.shape.shards + S.set.shape.shards) t.at r.course
-      (ap (λ (items : List CourseItem). begins S.set.shape.shards items t.at) went.course
-      ∙ taken_begins S story.found shape went.found.logs went.found.kept going r.old.moment (items_of first es) t.at (omega (arith, high, w))
-      (taken_at S story.found shape went.found.logs went.found.kept going 0 has_shard))
-
-  pub counted_is : counted_course S r ≡ r.course
-  counted_is =
-      ap (λ b. if (ending_of r.ending).wanting && b then filter (still_counts r) (taken_items S.set.shape (entry_logs S r) r.old.moment) else r.course) not_empty
-      ∙ none (ending_of r.ending).wanting
-    where
-      none : (w : Bool) → (if w && false then filter (still_counts r) (taken_items S.set.shape (entry_logs S r) r.old.moment) else r.course) ≡ r.course
-      none true = refl
-      none false = refl
-
   -- ---- at a moment
 
   pub took_then : (m g : ℕ) → r.old.moment < m → g < S.set.shape.shards → taken_below (counted_course S r) m g ≡ front_of g (core_at (first_core S.set story.found) (all_events story) m)
@@ -225,14 +233,14 @@ module _ (S : Script) (r : Ran) (story : Story) (went : Went S r story) (shape :
       ap (λ (items : List CourseItem). taken_from 0 items m g) (counted_is ∙ went.course)
       ∙ taken-append 0 (first_items S.set.shape story.found r.old.moment) (items_of first es) m g
       ∙ ap (λ x. taken_from x (items_of first es) m g)
-      (first_took S r story went shape going m g above low ∙ ap (λ (list : Numbered). (rank_of list).number) (sym (opened_taken g low)) ∙ sym (front_first S.set story.found g low))
+      (first_took S r story went shape there m g above low ∙ ap (λ (list : Numbered). (rank_of list).number) (sym (opened_taken g low)) ∙ sym (front_first S.set story.found g low))
       ∙ taken_by_core first es story.found.opened r.new.moment m g went.rises (shard_first g low)
 
   pub good_then : (m p : ℕ) → story.found.opened < m → p < peer_count S.set.shape → is_good (counted_course S r) m p ≡ is_good_status (status_of p (core_at (first_core S.set story.found) (all_events story) m))
   good_then m p later low =
       ap (λ (items : List CourseItem). good_from false items m p) (counted_is ∙ went.course)
       ∙ good-append false (first_items S.set.shape story.found r.old.moment) (items_of first es) m p
-      ∙ ap (λ x. good_from x (items_of first es) m p) (first_good S r story went shape going m p later low ∙ sym (good_first p))
+      ∙ ap (λ x. good_from x (items_of first es) m p) (first_good S r story went shape there m p later low ∙ sym (good_first p))
       ∙ good_by_core first es story.found.opened r.new.moment m p went.rises (peer_first p low)
 
   pub answered_then : (m : ℕ) → story.found.opened < m → (core_at (first_core S.set story.found) (all_events story) m).journal ≡ below m r.journal

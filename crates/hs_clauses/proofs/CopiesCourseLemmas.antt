@@ -1,10 +1,10 @@
--- With any number of copies, of a run whose core goes on: what the items with which its course begins tell of each peer and shard, and that the log with which a shard opened was not lost before, where no shard without a good peer has one again.
+-- With any number of copies, of a run that takes a log of each shard: what the items with which its course begins tell of each peer and shard, and that the log with which a shard opened was not lost before, where no shard without a good peer has one again.
 use Rattle.std.proofs.Common.{◌≡◌, ◌≢◌, ◌⊎◌, ◌∙◌, inl, inr, ap, sym, subst, ℕ, zero, suc, ◌+◌, ◌*◌, ◌^◌, ◌<◌, ◌≤◌, ◌==◌, ◌&&◌, ◌||◌, Bool, true, false, List, [], ◌∷◌, ◌++◌, refl, length, map, nat_lt, arith, append_assoc, length-append}
 use Rattle.std.proofs.lemmas.Bool.{and_from, and_left, cases_eq, eq-eqb, false≢true, lt-ltb, ne_eqb, true≢false}
 use Rattle.std.proofs.lemmas.List.Elements.{All-contains, All-from_recursion}
 use Rattle.std.specs.List.{AllByRecursion, list_any, range_with_len}
 use Rattle.std.specs.Prelude.{Contains, IsSome, None, flat_map, if◌then◌else◌, slice_index_or}
-use Rattle.hs_clauses.proofs.AsideLemmas.{Passes, home_in, is_peer_in, none_first, not_taken, number_in, passes_some, peer_in, rows_in, some_good}
+use Rattle.hs_clauses.proofs.AsideLemmas.{EachTaken, Passes, home_in, is_peer_in, none_first, not_taken, number_in, passes_some, peer_in, rows_in}
 use Rattle.hs_clauses.proofs.CourseLemmas.{bads_false, bads_other, bads_took, change_other, changes_good, changes_took, none_good}
 use Rattle.hs_clauses.proofs.FoundLemmas.{not_lost}
 use Rattle.hs_clauses.proofs.GreatestLemmas.{within}
@@ -21,7 +21,7 @@ use Rattle.hs_events.specs.Taken.{is_taken, peer_count, taken_items}
 use Rattle.hs_fold.specs.Good.{good_from, is_good, taken_from}
 use Rattle.hs_fold.specs.Shards.Course.{is_good_below, is_good_of, was_good}
 use Rattle.hs_limits.specs.Shape.{IsShape, peer_of}
-use Rattle.hs_members.specs.Members.{all_peers, home_of}
+use Rattle.hs_members.specs.Members.{all_peers, home_of, peers_of}
 use Rattle.hs_model.specs.declared.course.CourseItem.{CourseItem}
 use Rattle.hs_model.specs.declared.course.CourseItem.TheVariants as item
 use Rattle.hs_moments.proofs.CourseLemmas.{good-append, taken-append}
@@ -33,7 +33,7 @@ use Rattle.hs_standing.proofs.AllLemmas.{all_append}
 
 -- ---- some passes
 
-all_false : {X : Type 0} (q : X → Bool) (xs : List X) → list_any q xs ≡ false → AllByRecursion (λ x. q x ≡ false) xs
+pub all_false : {X : Type 0} (q : X → Bool) (xs : List X) → list_any q xs ≡ false → AllByRecursion (λ x. q x ≡ false) xs
 all_false q [] e = tt
 all_false q (x ∷ xs) e = go (q x) refl e (λ k. all_false q xs k)
   where
@@ -50,7 +50,7 @@ any_contains {X} q xs x has is = go (list_any q xs) refl
         let none : q x ≡ false = All-contains (λ (y : X). q y ≡ false) xs x (All-from_recursion (λ (y : X). q y ≡ false) xs (all_false q xs e)) has in
         absurd (true≢false (sym is ∙ none))
 
-any_flat : (q : CourseItem → Bool) (f : ℕ → List CourseItem) (k n j : ℕ) → k ≤ j → j < k + n → list_any q (f j) ≡ true → list_any q (flat_map f (range_with_len k n)) ≡ true
+pub any_flat : (q : CourseItem → Bool) (f : ℕ → List CourseItem) (k n j : ℕ) → k ≤ j → j < k + n → list_any q (f j) ≡ true → list_any q (flat_map f (range_with_len k n)) ≡ true
 any_flat q f k zero j low high is = absurd (omega (arith, low, high))
 any_flat q f k (suc n) j low high is = elim (cases_eq k j) [
   | inl here ↦ any_left q (f k) (flat_map f (range_with_len (k + 1) n)) (ap (λ i. list_any q (f i)) here ∙ is)
@@ -144,7 +144,7 @@ module _ (was is : ℕ → Bool) (moment m p : ℕ) where
 
 -- ---- a run
 
-module _ (S : Script) (r : Ran) (story : Story) (went : Went S r story) (shape : IsShape S.set.shape) (going : (first_core S.set story.found).ended ≡ None) where
+module _ (S : Script) (r : Ran) (story : Story) (went : Went S r story) (shape : IsShape S.set.shape) (there : EachTaken S story.found) where
   abbrev n : ℕ
   n = S.set.shape.shards
 
@@ -164,10 +164,10 @@ module _ (S : Script) (r : Ran) (story : Story) (went : Went S r story) (shape :
   taken_first = taken_items S.set.shape story.found.logs r.old.moment
 
   abbrev its_rows : List CourseItem
-  its_rows = rows (λ k. peer_in S story.found shape went.found.logs went.found.kept going k) (λ k. number_in S story.found shape went.found.logs went.found.kept going k) r.old.moment 0 S.set.shape.shards
+  its_rows = rows (λ k. peer_in S story.found shape there k) (λ k. number_in S story.found shape there k) r.old.moment 0 S.set.shape.shards
 
   rows_are : taken_items S.set.shape story.found.logs r.old.moment ≡ its_rows
-  rows_are = rows_in S story.found shape went.found.logs went.found.kept going r.old.moment
+  rows_are = rows_in S story.found shape there r.old.moment
 
   pub home_low : (p : ℕ) → p < peer_count S.set.shape → home_of S.set.shape p < S.set.shape.shards
   home_low p low = home_within S.set.shape p (let c = shape.some_copy in omega (arith, c)) low
@@ -177,14 +177,14 @@ module _ (S : Script) (r : Ran) (story : Story) (went : Went S r story) (shape :
     taken_makes : r.old.moment < m → p < peer_count S.set.shape → is_taken S.set.shape story.found.logs p ≡ true → good_from false (taken_items S.set.shape story.found.logs r.old.moment) m p ≡ true
     taken_makes below low taken =
         ap (λ (items : List CourseItem). good_from false items m p) rows_are
-        ∙ rows_make (λ k. peer_in S story.found shape went.found.logs went.found.kept going k) (λ k. number_in S story.found shape went.found.logs went.found.kept going k) r.old.moment m p 0 S.set.shape.shards (home_of S.set.shape p) false below (omega arith)
-        (let h = home_low p low in omega (arith, h)) (is_peer_in S story.found shape went.found.logs went.found.kept going p low taken)
+        ∙ rows_make (λ k. peer_in S story.found shape there k) (λ k. number_in S story.found shape there k) r.old.moment m p 0 S.set.shape.shards (home_of S.set.shape p) false below (omega arith)
+        (let h = home_low p low in omega (arith, h)) (is_peer_in S story.found shape there p low taken)
 
     untaken_rows : is_taken S.set.shape story.found.logs p ≡ false → AllByRecursion (λ i. is_good_of p i ≡ false) (taken_items S.set.shape story.found.logs r.old.moment)
     untaken_rows untaken =
         subst (λ (items : List CourseItem). AllByRecursion (λ i. is_good_of p i ≡ false) items) (sym rows_are)
-        (rows_other (λ k. peer_in S story.found shape went.found.logs went.found.kept going k) (λ k. number_in S story.found shape went.found.logs went.found.kept going k) r.old.moment p 0 S.set.shape.shards
-        (λ j low high same. not_taken S story.found shape went.found.logs went.found.kept going p j untaken (omega (arith, high)) same))
+        (rows_other (λ k. peer_in S story.found shape there k) (λ k. number_in S story.found shape there k) r.old.moment p 0 S.set.shape.shards
+        (λ j low high same. not_taken S story.found shape there p j untaken (omega (arith, high)) same))
 
     taken_none : is_taken S.set.shape story.found.logs p ≡ false → good_from false (taken_items S.set.shape story.found.logs r.old.moment) m p ≡ false
     taken_none untaken = none_good m p (taken_items S.set.shape story.found.logs r.old.moment) (none_of (is_good_of p) (taken_items S.set.shape story.found.logs r.old.moment) (untaken_rows untaken))
@@ -199,11 +199,11 @@ module _ (S : Script) (r : Ran) (story : Story) (went : Went S r story) (shape :
 
     lost_gone : story.found.opened < m → p < peer_count S.set.shape → is_taken S.set.shape story.found.logs p ≡ true → starts_good story.found p ≡ false → (x : Bool) → good_from x bads m p ≡ false
     lost_gone later low taken bad x =
-        let there : (moment : ℕ) × Contains story.found.lost (p, moment) = went.found.all_lost p low taken bad in
-        let before : IsLostBefore S r story (p, there.0) = All-contains (IsLostBefore S r story) story.found.lost (p, there.0) went.found.lost there.1 in
-        let up : there.0 ≤ story.found.opened = before.before in
+        let its : (moment : ℕ) × Contains story.found.lost (p, moment) = went.found.all_lost p low taken bad in
+        let before : IsLostBefore S r story (p, its.0) = All-contains (IsLostBefore S r story) story.found.lost (p, its.0) went.found.lost its.1 in
+        let up : its.0 ≤ story.found.opened = before.before in
         bads_gone story.found.lost m p x
-        (any_contains (λ (l : ℕ × ℕ). l.0 == p && nat_lt l.1 m) story.found.lost (p, there.0) there.1 (and_from (p == p) (nat_lt there.0 m) (eq-eqb p p refl) (lt-ltb there.0 m (omega (arith, up, later)))))
+        (any_contains (λ (l : ℕ × ℕ). l.0 == p && nat_lt l.1 m) story.found.lost (p, its.0) its.1 (and_from (p == p) (nat_lt its.0 m) (eq-eqb p p refl) (lt-ltb its.0 m (omega (arith, up, later)))))
 
     pub first_good : story.found.opened < m → p < peer_count S.set.shape → good_from false (first_items S.set.shape story.found r.old.moment) m p ≡ starts_good story.found p
     first_good later low = parts ∙ go (is_taken S.set.shape story.found.logs p) (starts_good story.found p) refl refl
@@ -266,24 +266,24 @@ module _ (S : Script) (r : Ran) (story : Story) (went : Went S r story) (shape :
         ap (λ (items : List CourseItem). list_any (is_good_below m p) items) went.course
         ∙ none_of (is_good_below m p) (first_items S.set.shape story.found r.old.moment ++ items_of (first_core S.set story.found) (all_events story))
         (all_append (λ i. is_good_below m p i ≡ false) (first_items S.set.shape story.found r.old.moment) (items_of (first_core S.set story.found) (all_events story))
-        (others_below m p (first_items S.set.shape story.found r.old.moment) (none_first S story.found shape went.found.logs went.found.kept going r.old.moment p untaken bad))
+        (others_below m p (first_items S.set.shape story.found r.old.moment) (none_first S story.found shape there r.old.moment p untaken bad))
         (all_false (is_good_below m p) (items_of (first_core S.set story.found) (all_events story)) later))
 
   -- ---- what took effect by them
 
-  pub first_took : (m g : ℕ) → r.old.moment < m → g < S.set.shape.shards → taken_from 0 (first_items S.set.shape story.found r.old.moment) m g ≡ number_in S story.found shape went.found.logs went.found.kept going g
+  pub first_took : (m g : ℕ) → r.old.moment < m → g < S.set.shape.shards → taken_from 0 (first_items S.set.shape story.found r.old.moment) m g ≡ number_in S story.found shape there g
   first_took m g below low =
       taken-append 0 (taken_items S.set.shape story.found.logs r.old.moment) (bads ++ changes) m g
       ∙ ap (λ x. taken_from x (bads ++ changes) m g)
       (ap (λ (items : List CourseItem). taken_from 0 items m g) rows_are
-      ∙ rows_took (λ k. peer_in S story.found shape went.found.logs went.found.kept going k) (λ k. number_in S story.found shape went.found.logs went.found.kept going k) r.old.moment m g 0 S.set.shape.shards 0 below (omega arith) (omega (arith, low)))
-      ∙ taken-append (number_in S story.found shape went.found.logs went.found.kept going g) bads changes m g
-      ∙ ap (λ x. taken_from x changes m g) (bads_took story.found.lost m g (number_in S story.found shape went.found.logs went.found.kept going g))
-      ∙ changes_took was now story.found.opened m g (all_peers S.set.shape) (number_in S story.found shape went.found.logs went.found.kept going g)
+      ∙ rows_took (λ k. peer_in S story.found shape there k) (λ k. number_in S story.found shape there k) r.old.moment m g 0 S.set.shape.shards 0 below (omega arith) (omega (arith, low)))
+      ∙ taken-append (number_in S story.found shape there g) bads changes m g
+      ∙ ap (λ x. taken_from x changes m g) (bads_took story.found.lost m g (number_in S story.found shape there g))
+      ∙ changes_took was now story.found.opened m g (all_peers S.set.shape) (number_in S story.found shape there g)
 
   -- ---- where no shard without a good peer has one again, the taken logs are in use as the core opens
 
-  module _ (returns : NoneReturns S r) (early : story.found.opened < 2 ^ 64) (p : ℕ) (low : p < peer_count S.set.shape) (taken : is_taken S.set.shape story.found.logs p ≡ true) where
+  module _ (each_good : (shard : ℕ) → shard < S.set.shape.shards → list_any (starts_good story.found) (peers_of S.set.shape shard) ≡ true) (returns : NoneReturns S r) (early : story.found.opened < 2 ^ 64) (p : ℕ) (low : p < peer_count S.set.shape) (taken : is_taken S.set.shape story.found.logs p ≡ true) where
     abbrev front : List CourseItem
     front = taken_first ++ bads
 
@@ -301,12 +301,12 @@ module _ (S : Script) (r : Ran) (story : Story) (went : Went S r story) (shape :
     long =
         let rows_count : length taken_first ≡ S.set.shape.shards + S.set.shape.shards =
         ap (λ (items : List CourseItem). length items) rows_are
-        ∙ rows_long (λ k. peer_in S story.found shape went.found.logs went.found.kept going k) (λ k. number_in S story.found shape went.found.logs went.found.kept going k) r.old.moment 0 S.set.shape.shards in
+        ∙ rows_long (λ k. peer_in S story.found shape there k) (λ k. number_in S story.found shape there k) r.old.moment 0 S.set.shape.shards in
         let both = length-append taken_first bads in
         omega (arith, rows_count, both)
 
-    own_peer : peer_in S story.found shape went.found.logs went.found.kept going (home_of S.set.shape p) ≡ p
-    own_peer = is_peer_in S story.found shape went.found.logs went.found.kept going p low taken
+    own_peer : peer_in S story.found shape there (home_of S.set.shape p) ≡ p
+    own_peer = is_peer_in S story.found shape there p low taken
 
     none_then : starts_good story.found p ≡ false → (q : ℕ) → home_of S.set.shape q ≡ home_of S.set.shape p → is_good front (2 ^ 64) q ≡ false
     none_then bad q home = good-append false taken_first bads (2 ^ 64) q ∙ by (cases_eq q p)
@@ -314,10 +314,10 @@ module _ (S : Script) (r : Ran) (story : Story) (went : Went S r story) (shape :
         other : q ≢ p → AllByRecursion (λ i. is_good_of q i ≡ false) taken_first
         other differs =
             subst (λ (items : List CourseItem). AllByRecursion (λ i. is_good_of q i ≡ false) items) (sym rows_are)
-            (rows_other (λ k. peer_in S story.found shape went.found.logs went.found.kept going k) (λ k. number_in S story.found shape went.found.logs went.found.kept going k) r.old.moment q 0 S.set.shape.shards
+            (rows_other (λ k. peer_in S story.found shape there k) (λ k. number_in S story.found shape there k) r.old.moment q 0 S.set.shape.shards
             (λ j from to same. (
-              let at : home_of S.set.shape q ≡ j = ap (home_of S.set.shape) (sym same) ∙ home_in S story.found shape went.found.logs went.found.kept going j (omega (arith, to)) in
-              differs (sym same ∙ ap (λ k. peer_in S story.found shape went.found.logs went.found.kept going k) (sym at ∙ home) ∙ own_peer)
+              let at : home_of S.set.shape q ≡ j = ap (home_of S.set.shape) (sym same) ∙ home_in S story.found shape there j (omega (arith, to)) in
+              differs (sym same ∙ ap (λ k. peer_in S story.found shape there k) (sym at ∙ home) ∙ own_peer)
               )))
 
         by : (q ≡ p) ⊎ (q ≢ p) → good_from (good_from false taken_first (2 ^ 64) q) bads (2 ^ 64) q ≡ false
@@ -330,7 +330,7 @@ module _ (S : Script) (r : Ran) (story : Story) (went : Went S r story) (shape :
     taken_good = go (starts_good story.found p) refl
       where
         some : Passes (starts_good story.found) (peer_of S.set.shape (home_of S.set.shape p) 0) S.set.shape.copies
-        some = passes_some (starts_good story.found) (peer_of S.set.shape (home_of S.set.shape p) 0) S.set.shape.copies (some_good S story.found shape went.found.logs went.found.kept going (home_of S.set.shape p) (home_low p low))
+        some = passes_some (starts_good story.found) (peer_of S.set.shape (home_of S.set.shape p) 0) S.set.shape.copies (each_good (home_of S.set.shape p) (home_low p low))
 
         home : home_of S.set.shape some.at ≡ home_of S.set.shape p
         home = home_between S.set.shape (home_of S.set.shape p) some.at some.from some.to
@@ -345,12 +345,12 @@ module _ (S : Script) (r : Ran) (story : Story) (went : Went S r story) (shape :
         untaken bad false is = is
         untaken bad true is =
             let same : some.at ≡ p =
-            sym (is_peer_in S story.found shape went.found.logs went.found.kept going some.at inside is)
-            ∙ ap (λ k. peer_in S story.found shape went.found.logs went.found.kept going k) home ∙ own_peer in
+            sym (is_peer_in S story.found shape there some.at inside is)
+            ∙ ap (λ k. peer_in S story.found shape there k) home ∙ own_peer in
             absurd (true≢false (sym some.is ∙ ap (starts_good story.found) same ∙ bad))
 
-        there : starts_good story.found p ≡ false → list_any (is_good_of some.at) behind ≡ true
-        there bad =
+        comes : starts_good story.found p ≡ false → list_any (is_good_of some.at) behind ≡ true
+        comes bad =
             any_left (is_good_of some.at) changes (items_of (first_core S.set story.found) (all_events story))
             (any_flat (is_good_of some.at) (λ (q : ℕ). change_item (was q) (now q) q story.found.opened) 0 (S.set.shape.shards * S.set.shape.copies) some.at (omega arith) (let high = inside in omega (arith, high))
             (ap (λ b. list_any (is_good_of some.at) (change_item b (b || starts_good story.found some.at) some.at story.found.opened)) (untaken bad (is_taken S.set.shape story.found.logs some.at) refl)
@@ -359,4 +359,4 @@ module _ (S : Script) (r : Ran) (story : Story) (went : Went S r story) (shape :
 
         go : (b : Bool) → starts_good story.found p ≡ b → starts_good story.found p ≡ true
         go true is = is
-        go false bad = absurd (true≢false (sym (there bad) ∙ returns front behind (home_of S.set.shape p) course_is long (none_then bad) some.at home))
+        go false bad = absurd (true≢false (sym (comes bad) ∙ returns front behind (home_of S.set.shape p) course_is long (none_then bad) some.at home))

@@ -5,34 +5,35 @@ use Rattle.std.proofs.lemmas.List.{get_or_past}
 use Rattle.std.proofs.lemmas.List.Elements.{Contains-append_right}
 use Rattle.std.specs.List.{list_any}
 use Rattle.std.specs.Prelude.{Contains, IsSome}
-use Rattle.hs_clauses.proofs.AsideLemmas.{set_aside}
-use Rattle.hs_clauses.proofs.AskedLemmas.{ReadsBlocks, runs_soundly}
+use Rattle.hs_clauses.proofs.AsideLemmas.{EachTaken, TellsDown, each_taken, set_aside, some_good, tells_down}
+use Rattle.hs_clauses.proofs.AskedLemmas.{ReadsBlocks, begins_at_entry, runs_soundly}
 use Rattle.hs_clauses.proofs.ComingLemmas.{ComingLaws}
-use Rattle.hs_clauses.proofs.CopiesCoreLemmas.{EachHasGood, answered_then, counted_is, good_first, good_then, good_then_goes, shape_then, took_then}
-use Rattle.hs_clauses.proofs.CopiesCourseLemmas.{never_first, taken_good}
-use Rattle.hs_clauses.proofs.CopiesEarlyLemmas.{begins, early_reopens, logs_early}
-use Rattle.hs_clauses.proofs.EndedLemmas.{last_is, lines_are}
+use Rattle.hs_clauses.proofs.CopiesCoreLemmas.{EachHasGood, answered_then, counted_is, good_first, good_then, good_then_goes, opened_taken, shape_then, silent_early, took_early, took_then}
+use Rattle.hs_clauses.proofs.CopiesCourseLemmas.{early_taken, never_first, taken_good}
+use Rattle.hs_clauses.proofs.CopiesEndedLemmas.{over_stops}
+use Rattle.hs_clauses.proofs.CopiesEarlyLemmas.{early_whole, entry_reopens, taken_reads}
+use Rattle.hs_clauses.proofs.CountedLemmas.{counted_cases}
 use Rattle.hs_clauses.proofs.FitLemmas.{fits}
 use Rattle.hs_clauses.proofs.GreatestLemmas.{within}
 use Rattle.hs_clauses.proofs.KeptRunLemmas.{all_kept}
 use Rattle.hs_clauses.proofs.MomentLemmas.{nil_of, runs_core, state_then}
-use Rattle.hs_clauses.proofs.PastLemmas.{never_past}
-use Rattle.hs_clauses.proofs.StopLemmas.{runs_count}
+use Rattle.hs_clauses.proofs.StopLemmas.{runs_count, some_shard}
 use Rattle.hs_clauses.specs.Asked.{start_of}
 use Rattle.hs_clauses.specs.Shown.{HasItsDisks, RunsSoundly}
-use Rattle.hs_clauses.specs.Stopped.{IsShownByMoments, IsShownOf, KeepsCopies, ShownOf}
+use Rattle.hs_clauses.specs.Stopped.{IsShownByMoments, IsShownOf, KeepsCopies, LeavesAt, ShownOf}
 use Rattle.hs_cluster.proofs.TakenLemmas.{any_there}
 use Rattle.hs_core_words.specs.Looking.{front_of, status_of}
 use Rattle.hs_core_words.specs.Records.{HasRecordRoom}
 use Rattle.hs_core_words.specs.State.{Core}
 use Rattle.hs_desk.specs.declared.fault.CoreFault.{CoreFault}
+use Rattle.hs_entry.specs.Entries.{rank_of}
 use Rattle.hs_events.specs.Beginning.{first_items}
 use Rattle.hs_events.specs.Course.{happened, items_of}
 use Rattle.hs_events.specs.Due.{Events}
 use Rattle.hs_events.specs.Found.{Found, first_core, starts_good}
-use Rattle.hs_events.specs.Taken.{is_taken, peer_count}
+use Rattle.hs_events.specs.Taken.{is_taken, peer_count, taken_list}
 use Rattle.hs_events.specs.Whole.{Whole, counts, open_whole}
-use Rattle.hs_fold.specs.Good.{IsBegun, is_good}
+use Rattle.hs_fold.specs.Good.{IsBegun, is_good, taken_below}
 use Rattle.hs_fold.specs.Images.{IsLeft, image_at}
 use Rattle.hs_fold.specs.Shards.Course.{was_good}
 use Rattle.hs_fold.specs.Shards.Images.{AreGoodImages, Image, IsBlank, IsGoodImage, Stop}
@@ -40,7 +41,7 @@ use Rattle.hs_fold.specs.Shards.Setting.{Numbered}
 use Rattle.hs_journal.specs.declared.entry.JournalEntry.{JournalEntry}
 use Rattle.hs_journal.specs.Moments.{below}
 use Rattle.hs_limits.specs.declared.shape.Shape.{Shape}
-use Rattle.hs_limits.specs.Shape.{peer_of}
+use Rattle.hs_limits.specs.Shape.{IsShape, peer_of}
 use Rattle.hs_members.specs.Members.{home_of, is_good_status, peers_of, status}
 use Rattle.hs_model.specs.declared.course.CourseItem.{CourseItem}
 use Rattle.hs_moments.specs.CoreMachine.{core_at}
@@ -48,6 +49,7 @@ use Rattle.hs_moments.specs.Joint.{AtMoment}
 use Rattle.hs_moments.specs.Machine.{until}
 use Rattle.hs_moments.specs.Moments.{GivesFine}
 use Rattle.hs_moments.specs.WholeMachine.{whole_machine}
+use Rattle.hs_peerlog.specs.Images.{LeavesOnly}
 use Rattle.hs_ports.specs.declared.disk.Side.{Side}
 use Rattle.hs_ports.specs.Disk.{Standing}
 use Rattle.hs_ports.specs.MemoryDisk.{untold}
@@ -55,11 +57,10 @@ use Rattle.hs_ports.specs.Moments.{disk_at}
 use Rattle.hs_ports.specs.Objects.{IsDuring}
 use Rattle.hs_promise.specs.Entry.{MayStop, counted_course, entry_store, is_aside}
 use Rattle.hs_promise.specs.Headers.{KeepsHeaders}
-use Rattle.hs_promise.specs.Lost.{IsPast}
-use Rattle.hs_promise.specs.Machine.{Went}
+use Rattle.hs_promise.specs.Machine.{NeverOpened, Went}
 use Rattle.hs_promise.specs.Run.{Ran, Script}
 use Rattle.hs_promise.specs.Stops.{Reopens as ReopensAt, Stops, stop_at}
-use Rattle.hs_promise.specs.Story.{Story, all_events, last_core}
+use Rattle.hs_promise.specs.Story.{Story, all_events}
 use Rattle.hs_side.specs.Current.{current, list_in}
 use Rattle.hs_side.specs.Reading.{is_blank, log_of}
 use Rattle.hs_standing.proofs.FirstRoomLemmas.{first_room}
@@ -68,7 +69,7 @@ use Rattle.hs_standing.specs.Reopens.{Reopens}
 use Rattle.hs_standing.specs.Run.{MayRun, RunBegins}
 use Rattle.hs_standing.specs.Standing.{AllMayKeep, IsStateAt}
 use Rattle.hs_standing.specs.Stands.{GoodPeersCount}
-use Rattle.hs_standing.specs.Start.{Start}
+use Rattle.hs_standing.specs.Start.{Start, events_in}
 use Rattle.hs_tails.proofs.AsideLemmas.{never_was_good}
 use Rattle.hs_tails.specs.Stop.{IsOutOfUse, LeavesWhatTook, left_at}
 
@@ -93,26 +94,15 @@ blank_reads : (image : Image) → IsBlank image → list_in image ≡ Some []
 unfolding log_of
 blank_reads image blank = rw (blank (current image)) refl
 
--- a core that was gone on from did not end with its opening
-pub goes_past : (S : Script) (r : Ran) (story : Story) → Went S r story → IsPast r 0 → (first_core S.set story.found).ended ≡ None
-goes_past S r story went past = go (first_core S.set story.found).ended refl
-  where
-    by : (f : CoreFault) → (first_core S.set story.found).ended ≡ Some f → IsPast r 0 → ⊥
-    by f over (inl some) = let none : length story.lines ≡ 0 = ap (λ (ls : List Events). length ls) (lines_are S r story went f over) in let line = went.line in omega (arith, some, none, line)
-    by f over (inr here) =
-        let both : None ≡ Some f = sym (went.ends.past here.1) ∙ ap (λ (c : Core). c.ended) (last_is S r story went f over) ∙ over in
-        cc both
-
-    go : (o : Option CoreFault) → (first_core S.set story.found).ended ≡ o → (first_core S.set story.found).ended ≡ None
-    go None e = e
-    go (Some f) over = absurd (by f over past)
-
-module _ (laws : CopiesStopLaws) (S : Script) (r : Ran) (story : Story) (on : HasItsDisks S r) (left_count : length r.new.disks ≡ peer_count S.set.shape) (shown : IsShownOf S r story) (may : MayStop S r) (keeps : KeepsCopies S r) where
-  going : (first_core S.set story.found).ended ≡ None
-  going = goes_past S r story shown.told.went keeps.past
-
+module _ (laws : CopiesStopLaws) (S : Script) (r : Ran) (story : Story) (on : HasItsDisks S r) (left_count : length r.new.disks ≡ peer_count S.set.shape) (shown : IsShownOf S r story) (may : MayStop S r) (keeps : KeepsCopies S r) (going : (first_core S.set story.found).ended ≡ None) where
   b : RunBegins (start_of S r) story.found
-  b = begins S r story on left_count shown may going
+  b = begins_at_entry S r story shown.told.went shown.told.read on may.sound going
+
+  tops : EachTaken S story.found
+  tops = each_taken S story.found on.shape shown.told.went.found.logs shown.told.went.found.kept going
+
+  down : TellsDown S r story
+  down = tells_down S r story shown.told.went on.shape going
 
   soundly : RunsSoundly S r story
   soundly = runs_soundly laws.memory laws.reads S r story on shown.told may.sound going
@@ -179,11 +169,11 @@ module _ (laws : CopiesStopLaws) (S : Script) (r : Ran) (story : Story) (on : Ha
 
         by_taken : p < peer_count S.set.shape → (t : Bool) → is_taken S.set.shape story.found.logs p ≡ t → IsOutOfUse (stop_at S r m) (state_then S story m) p
         by_taken low true taken =
-            absurd (true≢false (sym (taken_good S r story shown.told.went on.shape going keeps.returns (lower story.found.opened m (2 ^ 64) later during.early) p low taken) ∙ never.0))
+            absurd (true≢false (sym (taken_good S r story shown.told.went on.shape tops (some_good S story.found on.shape shown.told.went.found.logs shown.told.went.found.kept going) keeps.returns (lower story.found.opened m (2 ^ 64) later during.early) p low taken) ∙ never.0))
         by_taken low false untaken = inl (
-          set_aside S r story shown.told.went on.shape going p low untaken never.0,
+          set_aside S r story shown.told.went on.shape tops down p low untaken never.0,
           ap (λ (items : List CourseItem). was_good items m p) (counted_is S r story shown.told.went on.shape going)
-              ∙ never_first S r story shown.told.went on.shape going m p untaken never.0 never.1,
+              ∙ never_first S r story shown.told.went on.shape tops m p untaken never.0 never.1,
         )
 
     -- ---- where each shard has a good image
@@ -210,22 +200,70 @@ module _ (laws : CopiesStopLaws) (S : Script) (r : Ran) (story : Story) (on : Ha
           (laws.reopens (start_of S r) (stop_at S r m) story.found (all_events story) r.journal images b going (first_room S.set story.found laws.memory b.soundly.sound)
           (all_kept laws.coming laws.memory S r story soundly) inside on_then out_of_use left_count at_moment good)
 
+  -- ---- up to the opening
+
+  module _ (m : ℕ) (during : IsDuring r.old r.new m) (early : m ≤ story.found.opened) where
+    leaves : (p : ℕ) → p < peer_count S.set.shape → (own : Numbered) → LeavesOnly (disk_at r.old.disks p) own → LeavesAt S r story p own m
+    leaves p low own only = shown.early b.soundly going p low own only m (record { above = during.above; up_to = early; early = during.early })
+
+    counted : counted_course S r ≡ r.course
+    counted = counted_is S r story shown.told.went on.shape going
+
+    logs_then : (images : List Image) (p : ℕ) → p < length r.new.disks → IsGoodImage (stop_at S r m) images p → IsSome (list_in (image_at images p))
+    logs_then images p low good =
+        let less : p < peer_count S.set.shape = omega (arith, low, left_count) in
+        let taken : is_taken S.set.shape story.found.logs p ≡ true =
+        early_taken S r story shown.told.went on.shape tops m p early (ap (λ (items : List CourseItem). is_good items m p) (sym counted) ∙ good.good) in
+        let reads = taken_reads S r story shown.told.went on shown.told.read tops down may.sound may.one m leaves p less taken (image_at images p) good.left in
+        subst (λ (o : Option Numbered). IsSome o) (sym reads) refl
+
+    took : (g : ℕ) → g < S.set.shape.shards → taken_below (counted_course S r) m g ≡ (rank_of (taken_list S.set.shape story.found.logs g)).number
+    took g low =
+        took_early S r story shown.told.went on.shape going m g during.above early low
+        ∙ ap (λ (list : Numbered). (rank_of list).number) (opened_taken S r story shown.told.went on.shape going g low)
+
+    reopens_early : (images : List Image) → AreGoodImages S.set.shape (stop_at S r m) images → ReopensAt S (entry_store S r) r m images
+    reopens_early images good =
+        fits S r m images (begun m)
+        (entry_reopens S r story shown.told.went on shown.told.read tops down may.sound m images
+        (early_whole S r story shown.told.went on shown.told.read tops down may.sound may.one m leaves early left_count counted images good) took
+        (ap (λ (js : List JournalEntry). events_in (start_of S r) js) (silent_early S r story shown.told.went on.shape going m early)))
+
   -- ---- at each moment
 
   log_of_good : (m peer : ℕ) → IsDuring r.old r.new m → (images : List Image) → peer < length r.new.disks → IsGoodImage (stop_at S r m) images peer → IsSome (list_in (image_at images peer))
   log_of_good m peer during images low good = elim (cases_lt story.found.opened m) [
     | inl later ↦ logs_later m during later images peer low good
-    | inr early ↦ logs_early S r story on left_count shown may going m during early images peer low good
+    | inr early ↦ logs_then m during early images peer low good
   ]
 
   reopens_at : (m : ℕ) → IsDuring r.old r.new m → (images : List Image) → AreGoodImages S.set.shape (stop_at S r m) images → ReopensAt S (entry_store S r) r m images
   reopens_at m during images good = elim (cases_lt story.found.opened m) [
     | inl later ↦ reopens_later m during later images good
-    | inr early ↦ fits S r m images (begun m) (early_reopens S r story on left_count shown may going m during early images good)
+    | inr early ↦ reopens_early m during early images good
   ]
 
   pub copies_stop : KeepsHeaders S r → Stops S (entry_store S r) r
   copies_stop heads = record { logs = log_of_good; headed = λ m peer during own images good. heads.each m peer during own (image_at images peer) good.left; reopens = reopens_at }
+
+-- ---- a run that opened no core: nobody is good in it
+
+module _ (S : Script) (r : Ran) (never : NeverOpened r) (keeps : KeepsCopies S r) where
+  no_course : counted_course S r ≡ []
+  no_course = elim (counted_cases S r) [
+    | inl memory ↦ absurd ((keeps.memory memory.1).0 never.course)
+    | inr own ↦ own ∙ never.course
+  ]
+
+  nobody_good : (m peer : ℕ) → is_good (counted_course S r) m peer ≡ true → ⊥
+  nobody_good m peer good = false≢true (sym (ap (λ (items : List CourseItem). is_good items m peer) no_course) ∙ good)
+
+  never_stop : IsShape S.set.shape → KeepsHeaders S r → Stops S (entry_store S r) r
+  never_stop shape heads = record {
+    logs = λ m peer during images low good. absurd (nobody_good m peer good.good);
+    headed = λ m peer during own images good. heads.each m peer during own (image_at images peer) good.left;
+    reopens = λ m during images good. absurd (nobody_good m (peer_of S.set.shape 0 (good.shards 0 (some_shard S.set.shape.shards shape.shards)).0) (good.shards 0 (some_shard S.set.shape.shards shape.shards)).2.good);
+  }
 
 -- ---- a run
 
@@ -233,5 +271,9 @@ pub copies_may_stop : CopiesStopLaws → (S : Script) (r : Ran) → IsShownByMom
 copies_may_stop laws S r run heads may keeps = by_how run.how run.shown
   where
     by_how : (how : Option Story) → ShownOf S r how → Stops S (entry_store S r) r
-    by_how None never = absurd (never_past r never keeps.past)
-    by_how (Some story) shown = copies_stop laws S r story run.on run.left shown may keeps heads
+    by_how None never = never_stop S r never keeps run.on.shape heads
+    by_how (Some story) shown = by_end (first_core S.set story.found).ended refl
+      where
+        by_end : (o : Option CoreFault) → (first_core S.set story.found).ended ≡ o → Stops S (entry_store S r) r
+        by_end None going = copies_stop laws S r story run.on run.left shown may keeps going heads
+        by_end (Some f) over = over_stops S r story run.on run.left shown may keeps f over heads

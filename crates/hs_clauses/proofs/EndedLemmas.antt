@@ -80,14 +80,14 @@ module _ (S : Script) (r : Ran) (story : Story) (went : Went S r story) (fault :
   pub last_is : last_core S story ≡ first_core S.set story.found
   last_is = ap (λ (es : Events). steps (first_core S.set story.found) es) no_event
 
-  course_is : r.course ≡ first_items S.set.shape story.found r.old.moment
+  pub course_is : r.course ≡ first_items S.set.shape story.found r.old.moment
   course_is =
       went.course ∙ ap (λ (es : Events). first_items S.set.shape story.found r.old.moment ++ items_of (first_core S.set story.found) es) no_event
       ∙ append-nil (first_items S.set.shape story.found r.old.moment)
 
   -- ---- what was told
 
-  journal_is : r.journal ≡ (first_core S.set story.found).journal
+  pub journal_is : r.journal ≡ (first_core S.set story.found).journal
   journal_is = went.journal ∙ ap (λ (c : Core). c.journal) last_is
 
   pub journal_notes : AllByRecursion IsNote r.journal

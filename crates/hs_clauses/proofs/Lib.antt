@@ -11,6 +11,7 @@ pub mod ComingLemmas
 pub mod CopiesCoreLemmas
 pub mod CopiesCourseLemmas
 pub mod CopiesEarlyLemmas
+pub mod CopiesEndedLemmas
 pub mod CopiesShownLemmas
 pub mod CopiesStopLemmas
 pub mod CountedLemmas
@@ -36,7 +37,6 @@ pub mod NoteLemmas
 pub mod NumberLemmas
 pub mod NumberedLemmas
 pub mod OpenLemmas
-pub mod PastLemmas
 pub mod ReadLemmas
 pub mod ReadsListLemmas
 pub mod ReadyLemmas

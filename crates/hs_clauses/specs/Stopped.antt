@@ -1,9 +1,9 @@
 -- A run of any number of copies that may be stopped: what its disks show from entry to its end, and that each shard keeps a good peer.
 use Rattle.std.specs.List.{list_any}
-use Rattle.std.specs.Prelude.{List, None, Option, Some, false, length, true, ℕ, ◌++◌, ◌+◌, ◌-◌, ◌<◌, ◌^◌, ◌≡◌, ◌≤◌, ◌⊎◌}
+use Rattle.std.specs.Prelude.{IsSome, List, None, Option, Some, [], false, length, true, ℕ, ◌++◌, ◌+◌, ◌-◌, ◌<◌, ◌^◌, ◌≡◌, ◌≢◌, ◌≤◌, ◌⊎◌}
 use Rattle.hs_clauses.specs.Shown.{HasItsDisks, IsToldAs}
 use Rattle.hs_events.specs.Course.{happened}
-use Rattle.hs_events.specs.Found.{first_core}
+use Rattle.hs_events.specs.Found.{first_core, opened_list, starts_good}
 use Rattle.hs_events.specs.Taken.{is_taken, peer_count, taken_list}
 use Rattle.hs_events.specs.Whole.{open_whole}
 use Rattle.hs_fold.specs.Good.{is_good}
@@ -17,7 +17,9 @@ use Rattle.hs_moments.specs.Moments.{ListsAtMoments}
 use Rattle.hs_moments.specs.WholeMachine.{whole_machine}
 use Rattle.hs_peerlog.specs.Images.{GivesList, LeavesOnly}
 use Rattle.hs_ports.specs.Moments.{disk_at}
-use Rattle.hs_promise.specs.Lost.{IsPast}
+use Rattle.hs_ports.specs.Objects.{IsDuring}
+use Rattle.hs_promise.specs.declared.status.Status.TheVariants as status
+use Rattle.hs_promise.specs.Ending.{ending_of}
 use Rattle.hs_promise.specs.Machine.{NeverOpened}
 use Rattle.hs_promise.specs.Run.{Ran, Script}
 use Rattle.hs_promise.specs.Story.{Story, all_events}
@@ -33,17 +35,25 @@ pub record IsEarly (r : Ran) (story : Story) (moment : ℕ) : Type 0 where
   pub up_to : moment ≤ story.found.opened
   pub early : moment < 2 ^ 64 - 1
 
--- up to the opening of its core the disk of a peer, of which a stop at entry left this list alone, leaves it still, or a front of that which its shard takes; and of the taken log just this
-pub record LeavesEarly (S : Script) (r : Ran) (story : Story) (peer : ℕ) (own : Numbered) : Type 0 where
-  pub each : (m : ℕ) → IsEarly r story m → (image : Image) → IsLeft (disk_at r.new.disks peer) m image → GivesList (IsOwnOrFront own (taken_list S.set.shape story.found.logs (home_of S.set.shape peer))) image
-  pub taken : is_taken S.set.shape story.found.logs peer ≡ true → (m : ℕ) → IsEarly r story m → (image : Image) → IsLeft (disk_at r.new.disks peer) m image → list_in image ≡ Some own
+-- at a moment of opening the disk of a peer, of which a stop at entry left this list alone, leaves it still, or a front of that which its shard takes; and of the taken log just this
+pub record LeavesAt (S : Script) (r : Ran) (story : Story) (peer : ℕ) (own : Numbered) (m : ℕ) : Type 0 where
+  pub each : (image : Image) → IsLeft (disk_at r.new.disks peer) m image → GivesList (IsOwnOrFront own (taken_list S.set.shape story.found.logs (home_of S.set.shape peer))) image
+  pub taken : is_taken S.set.shape story.found.logs peer ≡ true → (image : Image) → IsLeft (disk_at r.new.disks peer) m image → list_in image ≡ Some own
 
--- with any number of copies it went as a story says, whose logs are those of its disks, and its reports tell what the lists have; and where its core opens over sound lists and goes on this its disks leave, up to the opening and behind it
+-- with any number of copies it went as a story says, whose logs are those of its disks, and its reports tell what the lists have; and this its disks leave.
+-- early, lists: where its core opens over sound lists and goes on, up to the opening and behind it
+-- ended, opened: where its core ended with its opening, at each moment; and of a peer that was good as it opened the list of its shard from then on
+-- answered: a sink failed there only where something was answered
 pub record IsShownOf (S : Script) (r : Ran) (story : Story) : Type 0 where
   pub told : IsToldAs S r story
-  pub early : OpensSoundly S.set story.found → (first_core S.set story.found).ended ≡ None → (peer : ℕ) → peer < peer_count S.set.shape → (own : Numbered) → LeavesOnly (disk_at r.old.disks peer) own → LeavesEarly S r story peer own
+  pub early : OpensSoundly S.set story.found → (first_core S.set story.found).ended ≡ None → (peer : ℕ) → peer < peer_count S.set.shape → (own : Numbered) → LeavesOnly (disk_at r.old.disks peer) own
+      → (m : ℕ) → IsEarly r story m → LeavesAt S r story peer own m
   pub lists : OpensSoundly S.set story.found → (first_core S.set story.found).ended ≡ None
       → ListsAtMoments whole_machine (open_whole S.set story.found) (happened (first_core S.set story.found) (all_events story)) (record { before = story.found.opened; now = r.new.moment; disks = r.new.disks })
+  pub ended : IsSome (first_core S.set story.found).ended → (peer : ℕ) → peer < peer_count S.set.shape → (own : Numbered) → LeavesOnly (disk_at r.old.disks peer) own → (m : ℕ) → IsDuring r.old r.new m → LeavesAt S r story peer own m
+  pub opened : IsSome (first_core S.set story.found).ended → (peer : ℕ) → peer < peer_count S.set.shape → starts_good story.found peer ≡ true → (m : ℕ) → story.found.opened < m
+      → (image : Image) → IsLeft (disk_at r.new.disks peer) m image → list_in image ≡ Some (opened_list S.set story.found (home_of S.set.shape peer))
+  pub answered : r.ending ≡ status.WriteFault → story.lines ≡ [] → 0 < length r.journal
 
 -- or no core was opened
 abbrev pub ShownOf : Script → Ran → Option Story → Type 0
@@ -66,10 +76,10 @@ NoneReturns S r =
     → ((peer : ℕ) → home_of S.set.shape peer ≡ shard → is_good front (2 ^ 64) peer ≡ false)
     → (peer : ℕ) → home_of S.set.shape peer ≡ shard → list_any (is_good_of peer) rest ≡ false
 
--- opening was gone past, and no shard went without a good peer on the way to the next one
+-- and where memory was wanting it was so behind the reading of the logs, and the journal has room for a note of each peer
 pub record KeepsCopies (S : Script) (r : Ran) : Type 0 where
-  pub past : IsPast r 0
   pub returns : NoneReturns S r
+  pub memory : (ending_of r.ending).wanting ≡ true → (r.course ≢ []) × (peer_count S.set.shape ≤ S.set.limits.ops)
 
 -- so it is; with one copy of each shard nothing is asked
 abbrev pub MayLosePeers : Script → Ran → Type 0

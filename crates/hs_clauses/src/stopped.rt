@@ -33,9 +33,10 @@ pub fn a_run_may_stop()
     answers_stay_in_order();
 }
 
-/// With any number of copies so it is at each moment of a run on sound disks whose opening was gone past, up to the
-/// opening of its core and behind it, where no shard that has no good peer any more has one again: of whatever images
-/// count the list of greatest rank of each shard is taken, whichever peer has it.
+/// With any number of copies so it is at each moment of a run on sound disks, while it opens and behind that, where no
+/// shard that has no good peer any more has one again: of whatever images count the list of greatest rank of each shard
+/// is taken, whichever peer has it. A disk whose peer opening set aside counts as blank until that is good. Where memory
+/// was wanting before any log was taken, or the journal is too small for a note of each peer, nothing is said.
 pub fn a_run_of_copies_may_stop()
     ensures { (S : Script) (r : Ran)
         → IsShownByMoments S r → KeepsHeaders S r → MayStop S r → KeepsCopies S r

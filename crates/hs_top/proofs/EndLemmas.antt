@@ -20,7 +20,7 @@ use Rattle.hs_promise.specs.Run.{Ran, Script}
 use Rattle.hs_promise.specs.Story.{Story}
 use Rattle.hs_promise.specs.Untold.{NoneFails}
 use Rattle.hs_run.specs.Machine.{IsOfCluster}
-use Rattle.hs_clauses.proofs.PastLemmas.{never_past, wanting_past}
+use Rattle.hs_top.proofs.PastLemmas.{never_past, wanting_past}
 use Rattle.hs_top.specs.Rest.{EndsAtRest, HasOneList}
 
 -- what hs_settled says of good peers and of notes

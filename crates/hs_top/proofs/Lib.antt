@@ -9,6 +9,7 @@ pub mod LimitLemmas
 pub mod LoadEndLemmas
 pub mod LoadLemmas
 pub mod NoteLemmas
+pub mod PastLemmas
 pub mod PromisedLemmas
 pub mod RankLemmas
 pub mod RestLemmas

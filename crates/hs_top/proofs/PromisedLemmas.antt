@@ -33,7 +33,7 @@ use Rattle.hs_top.proofs.FromEntryLemmas.{from_entry, led, whole}
 use Rattle.hs_top.proofs.LawLemmas.{Laws}
 use Rattle.hs_top.proofs.NoteLemmas.{WhyAside, failed_by, never_aside, why_aside}
 use Rattle.hs_top.proofs.RankLemmas.{ranked_by}
-use Rattle.hs_clauses.proofs.PastLemmas.{never_past}
+use Rattle.hs_top.proofs.PastLemmas.{never_past}
 use Rattle.hs_top.specs.Calls.{FromEntry, Promised, PromisedAlone, PromisedWhereTold}
 
 module _ (laws : Laws) (tells : Type 0) (S : Script) (r : Ran) (names : GivesAddresses S.set.name) (asked : r.ending ≡ status.Usage → ⊥) (cluster : IsOfCluster tells S r) where
@@ -170,17 +170,17 @@ module _ (laws : Laws) (tells : Type 0) (S : Script) (r : Ran) (names : GivesAdd
     its_disks : HasItsDisks S r
     its_disks = record { shape = cluster.shape; names = names; nobody = nobody; disks = cluster.count }
 
-    moments_by : (how : Option Story) → WentAs S r how → IfSome how (HasReadDisks S r) → IfSome how (RunsOnDisks tells S r) → ShownOf S r how
-    moments_by None went read runs = went
-    moments_by (Some story) went read runs =
-        shown_moments tells S r story runs.span told runs.before runs.now runs.old.stands runs.new.stands runs.shown may.none.called went read.read
+    moments_by : (how : Option Story) → WentAs S r how → IfSome how (HasReadDisks S r) → IfSome how (RunsOnDisks tells S r) → IfSome how (HasItsEnd S r) → ShownOf S r how
+    moments_by None went read runs ended = went
+    moments_by (Some story) went read runs ended =
+        shown_moments tells S r story runs.span told runs.before runs.now runs.old.stands runs.new.stands runs.shown may.none.called (runs.since told) went read.read ended.answered
 
     by_moments : IsShownByMoments S r
     by_moments = record {
       on = its_disks;
       left = cluster.served.handed_back ∙ cluster.count;
       how = cluster.how;
-      shown = moments_by cluster.how cluster.went (cluster.told told) cluster.runs;
+      shown = moments_by cluster.how cluster.went (cluster.told told) cluster.runs cluster.ended;
     }
 
     stops : MayLosePeers S r → Stops S (entry_store S r) r
