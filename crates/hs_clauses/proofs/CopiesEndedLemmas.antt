@@ -465,7 +465,7 @@ module _ (S : Script) (r : Ran) (story : Story) (on : HasItsDisks S r) (left_cou
       chosen_then : slice_index_or (taken_lists S.set.shape (image_logs images)) g [] ≡ taken_list S.set.shape story.found.logs g
       chosen_then =
           chosen_of_shard S.set.shape.shards g S.set.shape.copies (or_blank (image_logs images)) low
-          ∙ one_counts part (taken_list S.set.shape story.found.logs g) some.0 (numbered S r story shown.told.went on shown.told.read tops down may.sound g low) (let less = some.1 in let n = long in omega (arith, less, n))
+          ∙ one_counts (take S.set.shape.copies (drop (g * S.set.shape.copies) (or_blank (image_logs images)))) (taken_list S.set.shape story.found.logs g) some.0 (numbered S r story shown.told.went on shown.told.read tops down may.sound g low) (let less = some.1 in let n = long in omega (arith, less, n))
           (at some.0 some.1 ∙ mine)
           (λ j less. (let n = long in let few_j : j < S.set.shape.copies = omega (arith, less, n) in
           elim (each_then (peer_of S.set.shape g 0 + j) (omega arith) (omega (arith, few_j))) [
@@ -473,9 +473,6 @@ module _ (S : Script) (r : Ran) (story : Story) (on : HasItsDisks S r) (left_cou
             | inr none ↦ inr (at j few_j ∙ none)
           ]))
         where
-          abbrev part : List Numbered
-          part = take S.set.shape.copies (drop (g * S.set.shape.copies) (or_blank (image_logs images)))
-
           some : (copy : ℕ) × (copy < S.set.shape.copies) × IsGoodImage (stop_at S r m) images (peer_of S.set.shape g copy)
           some = good.shards g low
 

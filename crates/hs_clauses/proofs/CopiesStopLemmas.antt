@@ -144,6 +144,7 @@ module _ (laws : CopiesStopLaws) (S : Script) (r : Ran) (story : Story) (on : Ha
     }
 
     logs_later : (images : List Image) (p : ℕ) → p < length r.new.disks → IsGoodImage (stop_at S r m) images p → IsSome (list_in (image_at images p))
+    unfolding at_moment
     logs_later images p low good =
         let is : is_good_status (status_of p (state_then S story m).core) ≡ true = sym (at_moment.tells.good p (omega (arith, low, left_count))) ∙ good.good in
         let gives : GivesFine whole_machine (state_then S story m) p (image_at images p) = at_moment.lists p (counts_good m p is) (image_at images p) good.left in
