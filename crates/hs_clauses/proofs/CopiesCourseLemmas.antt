@@ -3,7 +3,7 @@ use Rattle.std.proofs.Common.{◌≡◌, ◌≢◌, ◌⊎◌, ◌∙◌, inl, i
 use Rattle.std.proofs.lemmas.Bool.{and_from, and_left, cases_eq, eq-eqb, false≢true, lt-ltb, ne_eqb, true≢false}
 use Rattle.std.proofs.lemmas.List.Elements.{All-contains, All-from_recursion}
 use Rattle.std.specs.List.{AllByRecursion, list_any, range_with_len}
-use Rattle.std.specs.Prelude.{Contains, IsSome, None, flat_map, if◌then◌else◌, slice_index_or}
+use Rattle.std.specs.Prelude.{Contains, flat_map, if◌then◌else◌}
 use Rattle.hs_clauses.proofs.AsideLemmas.{EachTaken, Passes, home_in, is_peer_in, none_first, not_taken, number_in, passes_some, peer_in, rows_in}
 use Rattle.hs_clauses.proofs.CourseLemmas.{bads_false, bads_other, bads_took, change_other, changes_good, changes_took, none_good}
 use Rattle.hs_clauses.proofs.FoundLemmas.{not_lost}
@@ -15,7 +15,6 @@ use Rattle.hs_clauses.specs.Stopped.{NoneReturns}
 use Rattle.hs_cluster.proofs.TakenLemmas.{home_between, home_within}
 use Rattle.hs_events.specs.Beginning.{first_items}
 use Rattle.hs_events.specs.Course.{change_item, items_of}
-use Rattle.hs_events.specs.Due.{Events}
 use Rattle.hs_events.specs.Found.{first_core, starts_good}
 use Rattle.hs_events.specs.Taken.{is_taken, peer_count, taken_items}
 use Rattle.hs_fold.specs.Good.{good_from, is_good, taken_from}

@@ -1,6 +1,6 @@
 -- With any number of copies, of a run that takes a log of each shard: images whose taken lists are those at entry reopen at the store at entry, and up to the opening of its core whatever images count are so.
-use Rattle.std.proofs.Common.{◌≡◌, ◌≢◌, ◌∙◌, inl, inr, ap, sym, subst, ℕ, zero, suc, ◌+◌, ◌*◌, ◌<◌, ◌≤◌, ◌^◌, ◌-◌, ◌++◌, not, Bool, true, false, List, [], ◌∷◌, Option, Some, None, refl, length, drop, take, is_some, arith}
-use Rattle.std.proofs.lemmas.Bool.{cases_lt, false≢true, true≢false}
+use Rattle.std.proofs.Common.{◌≡◌, ◌≢◌, ◌∙◌, inl, inr, ap, sym, subst, ℕ, zero, suc, ◌+◌, ◌*◌, ◌<◌, ◌≤◌, ◌++◌, not, Bool, true, false, List, [], ◌∷◌, Option, Some, None, refl, length, drop, take, is_some, arith}
+use Rattle.std.proofs.lemmas.Bool.{false≢true, true≢false}
 use Rattle.std.proofs.lemmas.List.Elements.{All-nil}
 use Rattle.std.specs.Option.{option_map_or}
 use Rattle.std.specs.Prelude.{All, AllPairs, IsSome, slice_index_or, unwrap_or}
@@ -17,7 +17,7 @@ use Rattle.hs_cluster.proofs.TakenLemmas.{chosen_at, home_between}
 use Rattle.hs_entry.specs.declared.entry.Entry.{Entry}
 use Rattle.hs_entry.specs.Entries.{rank_of}
 use Rattle.hs_events.specs.Found.{starts_good}
-use Rattle.hs_events.specs.Taken.{is_best, is_taken, or_blank, peer_count, taken_list, taken_lists}
+use Rattle.hs_events.specs.Taken.{is_taken, or_blank, peer_count, taken_list, taken_lists}
 use Rattle.hs_fold.proofs.PrefixLemmas.{last-length}
 use Rattle.hs_fold.specs.Good.{is_good, taken_below}
 use Rattle.hs_fold.specs.Images.{IsLeft, image_at}
@@ -33,9 +33,7 @@ use Rattle.hs_fold.specs.Shards.Outstanding.{MayPend, pending, pending_of}
 use Rattle.hs_fold.specs.Shards.Pending.{AreOneRun, changing_lines}
 use Rattle.hs_fold.specs.Shards.Setting.{Numbered, Setting, shard_in}
 use Rattle.hs_fold.specs.Shards.Sound.{HasRisingViews}
-use Rattle.hs_journal.specs.declared.entry.JournalEntry.{JournalEntry}
 use Rattle.hs_journal.specs.Moments.{below}
-use Rattle.hs_limits.specs.declared.shape.Shape.{Shape}
 use Rattle.hs_limits.specs.Shape.{peer_of}
 use Rattle.hs_members.specs.Members.{home_of}
 use Rattle.hs_model.specs.declared.course.CourseItem.{CourseItem}

@@ -1,14 +1,14 @@
 -- With any number of copies, of a run whose core has ended with its opening: whom that set aside is told, and at each moment whatever images count open at the store at entry.
-use Rattle.std.proofs.Common.{◌≡◌, ◌≢◌, ◌⊎◌, ◌∙◌, inl, inr, ap, sym, subst, ℕ, zero, suc, ◌+◌, ◌*◌, ◌<◌, ◌≤◌, ◌==◌, ◌&&◌, ◌||◌, ◌++◌, not, Bool, true, false, List, [], ◌∷◌, Option, Some, None, refl, length, drop, get_or, take, map, is_some, nat_lt, arith, length-append}
-use Rattle.std.proofs.lemmas.Bool.{and_parts, cases_eq, cases_lt, eq-eqb, eqb-true, false≢true, le-ltb, ne_eqb, true≢false}
+use Rattle.std.proofs.Common.{◌≡◌, ◌⊎◌, ◌∙◌, inl, inr, ap, sym, subst, ℕ, zero, suc, ◌+◌, ◌*◌, ◌<◌, ◌≤◌, ◌==◌, ◌&&◌, ◌||◌, ◌++◌, not, Bool, true, false, List, [], ◌∷◌, Option, Some, None, refl, length, drop, get_or, take, map, nat_lt, arith, length-append}
+use Rattle.std.proofs.lemmas.Bool.{and_parts, cases_lt, eq-eqb, eqb-true, false≢true, le-ltb, ne_eqb, true≢false}
 use Rattle.std.proofs.lemmas.List.{get_or-drop, get_or-take, length-drop, length-take-le}
 use Rattle.std.specs.List.{AllByRecursion, list_any, range_with_len}
 use Rattle.std.specs.Option.{option_map_or}
 use Rattle.std.specs.Prelude.{IfSome, IsSome, filter, find, flat_map, if◌then◌else◌, slice_index_or, unwrap_or}
 use Rattle.hs_awaiting.specs.Words.{change_if, each}
-use Rattle.hs_clauses.proofs.AsideLemmas.{EachTaken, TellsDown, is_peer_in, none_first, set_aside, status_is, taken_counts}
+use Rattle.hs_clauses.proofs.AsideLemmas.{EachTaken, TellsDown, set_aside, status_is}
 use Rattle.hs_clauses.proofs.AtEntryLemmas.{as_whole, chosen_long, taken_whole}
-use Rattle.hs_clauses.proofs.CopiesCourseLemmas.{all_false, any_flat, early_taken, first_took}
+use Rattle.hs_clauses.proofs.CopiesCourseLemmas.{any_flat, first_took}
 use Rattle.hs_clauses.proofs.CopiesEarlyLemmas.{blank_list, early_whole, entry_reopens, log_at, log_is, logs_count, numbered, some_log, taken_reads}
 use Rattle.hs_clauses.proofs.CourseLemmas.{items_for}
 use Rattle.hs_clauses.proofs.EndedLemmas.{course_is, journal_is, journal_notes, last_is, lines_are}
@@ -17,14 +17,14 @@ use Rattle.hs_clauses.proofs.GreatestLemmas.{FoundFirst, find_there, taken_there
 use Rattle.hs_clauses.proofs.ImageLemmas.{good_was}
 use Rattle.hs_clauses.proofs.ListLemmas.{begins_counts, some_there}
 use Rattle.hs_clauses.proofs.NoteLemmas.{Silent, all_silent, no_events, notes_below}
-use Rattle.hs_clauses.proofs.RowLemmas.{all_flat, bads_others, change_others, late_change, none_of, others_below}
-use Rattle.hs_clauses.proofs.ToldDownLemmas.{any_left, any_right, down_note, told_entries}
+use Rattle.hs_clauses.proofs.RowLemmas.{all_flat, change_others, late_change, none_of, others_below}
+use Rattle.hs_clauses.proofs.ToldDownLemmas.{any_left, any_right, told_entries}
 use Rattle.hs_clauses.specs.Asked.{start_of}
 use Rattle.hs_clauses.specs.Shown.{HasItsDisks}
 use Rattle.hs_clauses.specs.Stopped.{IsShownOf, KeepsCopies, LeavesAt}
 use Rattle.hs_cluster.proofs.TakenLemmas.{above_or_least, any_there, chosen_at as chosen_of_shard, home_between, home_within, none_above, none_below}
 use Rattle.hs_core_words.specs.Changing.{note}
-use Rattle.hs_core_words.specs.Looking.{shape_of, shards_of, status_of}
+use Rattle.hs_core_words.specs.Looking.{shards_of, status_of}
 use Rattle.hs_core_words.specs.Opening.{begin_views, new_core, note_down, note_if_down}
 use Rattle.hs_core_words.specs.State.{Core}
 use Rattle.hs_core_words.specs.Step.{keep_entries, refuse_entries}
@@ -35,11 +35,10 @@ use Rattle.hs_entry.specs.Entries.{rank_of}
 use Rattle.hs_events.proofs.FrameLemmas.{Frame, frame_opens}
 use Rattle.hs_events.specs.Beginning.{first_items}
 use Rattle.hs_events.specs.Course.{change_item}
-use Rattle.hs_events.specs.Due.{Events}
 use Rattle.hs_events.specs.Found.{first_core, opened_list, opens_with, starts_good}
 use Rattle.hs_events.specs.Taken.{is_best, is_taken, or_blank, peer_count, taken_items, taken_list, taken_lists, taken_peer}
 use Rattle.hs_fold.proofs.PrefixLemmas.{last-length}
-use Rattle.hs_fold.specs.Good.{IsBegun, is_good, taken_below, taken_from}
+use Rattle.hs_fold.specs.Good.{IsBegun, taken_below, taken_from}
 use Rattle.hs_fold.specs.Images.{IsLeft, image_at}
 use Rattle.hs_fold.specs.Opened.{chosen, outranks}
 use Rattle.hs_fold.specs.Prefix.{IsNumbered}
@@ -51,7 +50,7 @@ use Rattle.hs_journal.specs.declared.entry.Who.TheVariants as who
 use Rattle.hs_journal.specs.Moments.{below}
 use Rattle.hs_limits.specs.declared.shape.Shape.{Shape}
 use Rattle.hs_limits.specs.Shape.{peer_of}
-use Rattle.hs_members.specs.Members.{Members, all_peers, home_of, is_good_status, peers_of}
+use Rattle.hs_members.specs.Members.{Members, all_peers, home_of, is_good_status}
 use Rattle.hs_model.specs.declared.course.CourseItem.{CourseItem}
 use Rattle.hs_model.specs.declared.course.CourseItem.TheVariants as item
 use Rattle.hs_model.specs.declared.deed.Deed.TheVariants as deed
@@ -67,7 +66,7 @@ use Rattle.hs_promise.specs.Headers.{KeepsHeaders}
 use Rattle.hs_promise.specs.Machine.{EndsAs, Went}
 use Rattle.hs_promise.specs.Run.{Ran, Script}
 use Rattle.hs_promise.specs.Stops.{Reopens as ReopensAt, Stops, stop_at}
-use Rattle.hs_promise.specs.Story.{Story, all_events, last_core}
+use Rattle.hs_promise.specs.Story.{Story, last_core}
 use Rattle.hs_side.specs.Current.{list_in}
 use Rattle.hs_standing.proofs.AllLemmas.{all_append}
 use Rattle.hs_standing.specs.Lists.{whole_from}

@@ -1,5 +1,5 @@
 -- With any number of copies what a cluster shows of a run is what is asked of it here, where the disks tell their contents and no call of one was ahead at entry: the lists at each moment behind the opening of the core, and up to it of each disk that it had at entry, or a front of the one that is taken.
-use Rattle.std.proofs.Common.{◌≡◌, ◌∙◌, inl, inr, ap, sym, subst, ℕ, ◌+◌, ◌<◌, ◌≤◌, ◌^◌, ◌-◌, true, List, [], Option, Some, None, refl, length, is_some, arith}
+use Rattle.std.proofs.Common.{◌≡◌, ◌∙◌, inl, inr, ap, sym, subst, ℕ, ◌<◌, ◌≤◌, ◌^◌, ◌-◌, true, List, [], ◌∷◌, Option, Some, None, refl, length, is_some, arith}
 use Rattle.std.proofs.lemmas.Bool.{false≢true}
 use Rattle.std.specs.Prelude.{IsSome}
 use Rattle.hs_clauses.proofs.ShownLemmas.{seen_as}
@@ -9,7 +9,9 @@ use Rattle.hs_cluster.specs.Disks.{DiskSeen, stands_of}
 use Rattle.hs_cluster.specs.Kept.{LeavesLists, Span}
 use Rattle.hs_cluster.specs.Opens.{IsFound}
 use Rattle.hs_cluster.specs.RunsOn.{RunsOn, from_opening}
+use Rattle.hs_desk.specs.declared.fault.CoreFault.{CoreFault}
 use Rattle.hs_events.specs.Course.{happened}
+use Rattle.hs_events.specs.Due.{Events, MomentsRise}
 use Rattle.hs_events.specs.Found.{first_core, opened_list, starts_good}
 use Rattle.hs_events.specs.Taken.{is_taken, peer_count, taken_list}
 use Rattle.hs_events.specs.Whole.{open_whole}
@@ -143,6 +145,26 @@ module _ (tells : Type 0) (S : Script) (r : Ran) (story : Story) (span : Span) (
           (subst (λ (ds : List Standing). IsLeft (disk_at ds p) m image) (sym new) left);
     }
 
+  -- ---- no call of a disk is ahead at the end
+
+  rises_to : (from to : ℕ) (es : Events) → MomentsRise from es to → from ≤ to
+  rises_to from to [] h = h
+  rises_to from to (e ∷ es) h = let low = h.0 in let rest = rises_to e.1 to es h.1 in omega (arith, low, rest)
+
+  called_then : Went S r story → ((first_core S.set story.found).ended ≡ None → OpensSoundly S.set story.found) → (p : ℕ) → p < peer_count S.set.shape → (disk_at r.new.disks p).last ≤ r.new.moment
+  called_then went soundly p low = go (first_core S.set story.found).ended refl
+    where
+      go : (o : Option CoreFault) → (first_core S.set story.found).ended ≡ o → (disk_at r.new.disks p).last ≤ r.new.moment
+      go None going =
+          let last = (shows (soundly going) going).keeps.called p in
+          let same = ap (λ (ds : List Standing). (disk_at ds p).last) new in
+          omega (arith, last, same, now)
+      go (Some f) over =
+          let past = ((runs.finds.each p low).past told (called p)).last in
+          let same = ap (λ (d : Standing). d.last) (stays (subst (λ (o : Option CoreFault). IsSome o) (sym over) refl) p) in
+          let up = rises_to story.found.opened r.new.moment (all_events story) went.rises in
+          omega (arith, past, same, up)
+
   pub shown_moments : Went S r story → ((peer : ℕ) → peer < peer_count S.set.shape → IsReadAs r story peer) → (r.ending ≡ status.WriteFault → story.lines ≡ [] → 0 < length r.journal) → IsShownOf S r story
   shown_moments went read answered = record {
     told = told_of tells S r story span told before old runs (inr behind) went read;
@@ -151,4 +173,5 @@ module _ (tells : Type 0) (S : Script) (r : Ran) (story : Story) (span : Span) (
     ended = leaves_ended;
     opened = opened_ended;
     answered = answered;
+    called = called_then went;
   }

@@ -1,5 +1,5 @@
 -- With any number of copies a run whose core goes on behind its opening may stop at each of its moments, where no shard without a good peer has one again.
-use Rattle.std.proofs.Common.{◌≡◌, ◌≢◌, ◌⊎◌, ◌∙◌, inl, inr, ap, sym, subst, ℕ, ◌+◌, ◌*◌, ◌-◌, ◌^◌, ◌<◌, ◌≤◌, ◌++◌, not, Bool, true, false, List, [], ◌∷◌, Option, Some, None, refl, length, arith}
+use Rattle.std.proofs.Common.{◌≡◌, ◌∙◌, inl, inr, ap, sym, subst, ℕ, ◌-◌, ◌^◌, ◌<◌, ◌≤◌, not, Bool, true, false, List, [], Option, Some, None, refl, length, arith}
 use Rattle.std.proofs.lemmas.Bool.{cases_lt, false≢true, true≢false}
 use Rattle.std.proofs.lemmas.List.{get_or_past}
 use Rattle.std.proofs.lemmas.List.Elements.{Contains-append_right}
@@ -32,7 +32,7 @@ use Rattle.hs_events.specs.Course.{happened, items_of}
 use Rattle.hs_events.specs.Due.{Events}
 use Rattle.hs_events.specs.Found.{Found, first_core, starts_good}
 use Rattle.hs_events.specs.Taken.{is_taken, peer_count, taken_list}
-use Rattle.hs_events.specs.Whole.{Whole, counts, open_whole}
+use Rattle.hs_events.specs.Whole.{counts, open_whole}
 use Rattle.hs_fold.specs.Good.{IsBegun, is_good, taken_below}
 use Rattle.hs_fold.specs.Images.{IsLeft, image_at}
 use Rattle.hs_fold.specs.Shards.Course.{was_good}
@@ -42,7 +42,7 @@ use Rattle.hs_journal.specs.declared.entry.JournalEntry.{JournalEntry}
 use Rattle.hs_journal.specs.Moments.{below}
 use Rattle.hs_limits.specs.declared.shape.Shape.{Shape}
 use Rattle.hs_limits.specs.Shape.{IsShape, peer_of}
-use Rattle.hs_members.specs.Members.{home_of, is_good_status, peers_of, status}
+use Rattle.hs_members.specs.Members.{is_good_status, peers_of, status}
 use Rattle.hs_model.specs.declared.course.CourseItem.{CourseItem}
 use Rattle.hs_moments.specs.CoreMachine.{core_at}
 use Rattle.hs_moments.specs.Joint.{AtMoment}
@@ -50,14 +50,13 @@ use Rattle.hs_moments.specs.Machine.{until}
 use Rattle.hs_moments.specs.Moments.{GivesFine}
 use Rattle.hs_moments.specs.WholeMachine.{whole_machine}
 use Rattle.hs_peerlog.specs.Images.{LeavesOnly}
-use Rattle.hs_ports.specs.declared.disk.Side.{Side}
 use Rattle.hs_ports.specs.Disk.{Standing}
 use Rattle.hs_ports.specs.MemoryDisk.{untold}
 use Rattle.hs_ports.specs.Moments.{disk_at}
 use Rattle.hs_ports.specs.Objects.{IsDuring}
-use Rattle.hs_promise.specs.Entry.{MayStop, counted_course, entry_store, is_aside}
+use Rattle.hs_promise.specs.Entry.{MayStop, counted_course, entry_store}
 use Rattle.hs_promise.specs.Headers.{KeepsHeaders}
-use Rattle.hs_promise.specs.Machine.{NeverOpened, Went}
+use Rattle.hs_promise.specs.Machine.{NeverOpened}
 use Rattle.hs_promise.specs.Run.{Ran, Script}
 use Rattle.hs_promise.specs.Stops.{Reopens as ReopensAt, Stops, stop_at}
 use Rattle.hs_promise.specs.Story.{Story, all_events}
@@ -256,7 +255,7 @@ module _ (S : Script) (r : Ran) (never : NeverOpened r) (keeps : KeepsCopies S r
     | inr own ↦ own ∙ never.course
   ]
 
-  nobody_good : (m peer : ℕ) → is_good (counted_course S r) m peer ≡ true → ⊥
+  pub nobody_good : (m peer : ℕ) → is_good (counted_course S r) m peer ≡ true → ⊥
   nobody_good m peer good = false≢true (sym (ap (λ (items : List CourseItem). is_good items m peer) no_course) ∙ good)
 
   never_stop : IsShape S.set.shape → KeepsHeaders S r → Stops S (entry_store S r) r

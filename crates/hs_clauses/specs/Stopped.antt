@@ -44,6 +44,7 @@ pub record LeavesAt (S : Script) (r : Ran) (story : Story) (peer : ℕ) (own : N
 -- early, lists: where its core opens over sound lists and goes on, up to the opening and behind it
 -- ended, opened: where its core ended with its opening, at each moment; and of a peer that was good as it opened the list of its shard from then on
 -- answered: a sink failed there only where something was answered
+-- called: no call of a disk is ahead at its end, where a core that goes on opens over sound lists
 pub record IsShownOf (S : Script) (r : Ran) (story : Story) : Type 0 where
   pub told : IsToldAs S r story
   pub early : OpensSoundly S.set story.found → (first_core S.set story.found).ended ≡ None → (peer : ℕ) → peer < peer_count S.set.shape → (own : Numbered) → LeavesOnly (disk_at r.old.disks peer) own
@@ -54,6 +55,7 @@ pub record IsShownOf (S : Script) (r : Ran) (story : Story) : Type 0 where
   pub opened : IsSome (first_core S.set story.found).ended → (peer : ℕ) → peer < peer_count S.set.shape → starts_good story.found peer ≡ true → (m : ℕ) → story.found.opened < m
       → (image : Image) → IsLeft (disk_at r.new.disks peer) m image → list_in image ≡ Some (opened_list S.set story.found (home_of S.set.shape peer))
   pub answered : r.ending ≡ status.WriteFault → story.lines ≡ [] → 0 < length r.journal
+  pub called : ((first_core S.set story.found).ended ≡ None → OpensSoundly S.set story.found) → (peer : ℕ) → peer < peer_count S.set.shape → (disk_at r.new.disks peer).last ≤ r.new.moment
 
 -- or no core was opened
 abbrev pub ShownOf : Script → Ran → Option Story → Type 0
