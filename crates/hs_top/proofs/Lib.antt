@@ -1,3 +1,4 @@
+pub mod AgainCopiesLemmas
 pub mod AgainLemmas
 pub mod AsideLemmas
 pub mod CalledLemmas
