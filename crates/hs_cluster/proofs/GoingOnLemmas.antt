@@ -15,7 +15,7 @@ use Rattle.hs_cluster.proofs.StretchLemmas.{rises_to}
 use Rattle.hs_cluster.specs.Begins.{Begins, HasOpened, opened_with}
 use Rattle.hs_cluster.specs.Calls.{Does, ran_out}
 use Rattle.hs_cluster.specs.Calm.{GoesCalmly}
-use Rattle.hs_cluster.specs.Counts.{AreAllCounted, AreCounted}
+use Rattle.hs_cluster.specs.Counts.{AreAllCounted, AreCounted, UntoldStand}
 use Rattle.hs_cluster.specs.declared.fault.ClusterFault.{ClusterFault}
 use Rattle.hs_cluster.specs.Headed.{IsHeadedAt, IsOwnAt, KeepsHeads, LeavesHeads}
 use Rattle.hs_cluster.specs.Kept.{CanGoOn, CanRead, KeepsLogs, LeavesLists, ReadsLogs, sealed_front}
@@ -589,6 +589,7 @@ module _ (tells : Type 0) (set : Setting) (span : Span) (cluster : Running) (don
     course = o.turned.does.course ∙ (λ i. course_is i ++ items_of (sym core_is i) o.turned.events);
     falls = b.falls;
     counted = subst (λ x. AreCounted x o.turned.events o.disks span.new) (sym core_is) o.turned.shows.counted;
+    untold = λ out. subst (λ x. UntoldStand x o.turned.events o.disks span.new) (sym core_is) (o.turned.shows.untold out);
     rooms = subst (λ x. HaveRecordRoom x o.turned.events) (sym core_is) o.turned.does.rooms;
     calm = calm;
     past = past;

@@ -1,38 +1,47 @@
 -- What events show of the disks of any number of copies: one event, and one run of them behind another.
 use Rattle.std.proofs.Common.{◌≡◌, ◌∙◌, ap, sym, subst, ℕ, Bool, true, false, List, [], ◌∷◌, ◌++◌, Option, Some, None, refl, arith}
 use Rattle.std.specs.Prelude.{OnOk, Result, Ok, Err, ⊤, if◌then◌else◌}
+use Rattle.hs_cluster.proofs.CountLemmas.{all_none, all_one, all_quiet, all_still, all_then}
 use Rattle.hs_cluster.proofs.EventLemmas.{still_going}
 use Rattle.hs_cluster.proofs.PeerEventLemmas.{SlotStays, quiet_fine, quiet_peers}
 use Rattle.hs_cluster.proofs.PeerReportLemmas.{call_peers, peers_told, report_peers, report_peers_fine}
-use Rattle.hs_cluster.proofs.StretchLemmas.{call_earlier, call_keeps, call_lists, call_moments, lists_then, none_yet, runs_append, runs_core, step_going, told_by}
+use Rattle.hs_cluster.proofs.ReadLemmas.{some_job}
+use Rattle.hs_cluster.proofs.StretchLemmas.{call_earlier, call_keeps, call_lists, call_moments, lists_then, none_yet, runs_append, runs_core, step_going, stored_back, stored_front, told_by}
 use Rattle.hs_cluster.specs.Calls.{Does, done_of, ran_out}
+use Rattle.hs_cluster.specs.Counts.{AreAllCounted, HasAllPaid, NoneFalls}
 use Rattle.hs_cluster.specs.declared.fault.ClusterFault.{ClusterFault}
 use Rattle.hs_cluster.specs.declared.fault.ClusterFault.TheVariants.{NoMemory}
-use Rattle.hs_cluster.specs.Disks.{DiskSeen, stands_of}
+use Rattle.hs_cluster.specs.Disks.{DiskSeen, log_at, stands_of}
 use Rattle.hs_cluster.specs.Headed.{IsHeadedAt, StaysHeadedAt}
-use Rattle.hs_cluster.specs.Jobs.{TellsBytes, Working, Works}
-use Rattle.hs_cluster.specs.Kept.{IsTold, ShowsLists, Span}
-use Rattle.hs_cluster.specs.PeerLogs.{KeepsPeers}
+use Rattle.hs_cluster.specs.Jobs.{HasStored, TellsBytes, Working, Works, is_own}
+use Rattle.hs_cluster.specs.Kept.{AreStored, IsTold, ShowsLists, Span, sealed_front}
+use Rattle.hs_cluster.specs.PeerLogs.{HasPeerLog, KeepsPeers, log_of_peer}
 use Rattle.hs_cluster.specs.Running.{Running}
-use Rattle.hs_cluster.specs.Steady.{AreSteady, GoesAlong, IsSteady, StepsSteadily}
+use Rattle.hs_cluster.specs.Steady.{AreSteady, AsksFor, GoesAlong, IsNextOwn, IsSteady, StepsSteadily}
 use Rattle.hs_core_words.specs.declared.event.Event.{Event}
 use Rattle.hs_core_words.specs.declared.event.Event.TheVariants as event
-use Rattle.hs_core_words.specs.Looking.{first_job}
+use Rattle.hs_core_words.specs.Looking.{catalogue_of, first_job, home}
 use Rattle.hs_core_words.specs.State.{Core}
 use Rattle.hs_core_words.specs.Step.{step}
 use Rattle.hs_desk.specs.declared.done.Done.{Done}
 use Rattle.hs_desk.specs.declared.fault.CoreFault.{CoreFault}
+use Rattle.hs_desk.specs.declared.job.Job.{Job}
+use Rattle.hs_desk.specs.declared.job.Job.TheVariants as job
+use Rattle.hs_entry.specs.declared.entry.Entry.{Entry}
 use Rattle.hs_events.specs.Asked.{report_in}
 use Rattle.hs_events.specs.Course.{happened, is_refused, steps}
 use Rattle.hs_events.specs.Due.{Events, MomentsRise, is_answer}
+use Rattle.hs_events.specs.Sane.{appended_of}
 use Rattle.hs_events.specs.Whole.{Whole, counts, step_whole}
+use Rattle.hs_fold.specs.Shards.Setting.{Numbered}
 use Rattle.hs_members.specs.Members.{IsPeer}
 use Rattle.hs_moments.proofs.MomentLemmas.{call-keeps, quiet-keeps}
 use Rattle.hs_moments.specs.Machine.{runs}
 use Rattle.hs_moments.specs.Moments.{EachImageOfOne, GivesFine, Grows, Keeps, Since}
 use Rattle.hs_moments.specs.WholeMachine.{whole_machine}
-use Rattle.hs_peerlog.specs.Lists.{Keeping}
+use Rattle.hs_peerlog.specs.Lists.{IsKept, Keeping, numbered_entry}
 use Rattle.hs_ports.specs.declared.disk.Side.{Side}
+use Rattle.hs_ports.specs.Moments.{disk_at}
 use Rattle.hs_side.specs.Headers.{own_header}
 
 -- ---- along events
@@ -98,6 +107,7 @@ quiet_lists e now old new disks r quiet was does stays = record {
     told = told_by c e now r (subst (λ o. IsTold c o) (sym quiet) tt);
   };
   goes_on = λ c core steady can. go r does c core steady can;
+  read = λ c core steady can stored. all_quiet old.core e now r disks quiet;
 }
   where
     go : (r : Result ⊤ ClusterFault) → Does (done_of r (e, now)) old new r → (c : Whole) → c.core ≡ old.core → AreSteady c (done_of r (e, now)) → KeepsPeers c old.logs disks now
@@ -117,6 +127,7 @@ none_lists now old new disks = record {
     told = tt;
   };
   goes_on = λ c core steady can. tt;
+  read = λ c core steady can stored. all_still old.core disks;
 }
 
 pub begin_lists : (now : ℕ) (old : Running) (disks : List DiskSeen) → ShowsLists (record { before = now; now = now; old = old; new = old; disks = disks; left = disks }) (Ok tt) []
@@ -128,11 +139,51 @@ begin_lists now old disks = record {
     told = tt;
   };
   goes_on = λ c core steady can. can;
+  read = λ c core steady can stored. all_still old.core disks;
 }
 
 -- it is given up
 pub cut_lists : (span : Span) (fault : ClusterFault) (es : Events) → ShowsLists span (Ok tt) es → ShowsLists span (Err fault) es
-cut_lists span fault es shows = record { lists = shows.lists; goes_on = λ c core steady can. tt }
+cut_lists span fault es shows = record { lists = shows.lists; goes_on = λ c core steady can. tt; read = shows.read }
+
+-- ---- what a job costs
+
+-- of a job that was done: its call that failed is at the count, also where it only read, if the log has what is read
+pub record PaysFor (peer : ℕ) (done : Done) (core : Core) (logs : List (Option Keeping)) (disks left : List DiskSeen) : Type 0 where
+  pub own : is_own (first_job peer core) ≡ true → (list : Numbered) (waiting : Option Entry) → ((keeping : Keeping) → log_at logs peer ≡ Some keeping → IsKept keeping ((disk_at (stands_of disks) peer).seen keeping.log.side) list waiting)
+      → HasStored (first_job peer core) (catalogue_of (home peer core) core).blocks list → HasAllPaid core peer done disks left
+  pub emptied : first_job peer core ≡ Some job.Reset → HasAllPaid core peer done disks left
+  pub copied : (from number : ℕ) → first_job peer core ≡ Some (job.Copy from number) → (list : Numbered) (waiting : Option Entry) (entry : Entry)
+      → ((keeping : Keeping) → log_at logs from ≡ Some keeping → IsKept keeping ((disk_at (stands_of disks) from).seen keeping.log.side) list waiting) → numbered_entry list number ≡ Some entry → HasAllPaid core peer done disks left
+
+same_log : (x y : Keeping) (logs : List (Option Keeping)) (at : ℕ) → log_at logs at ≡ Some x → log_at logs at ≡ Some y → x ≡ y
+same_log x y logs at one other = same (sym one ∙ other)
+  where
+    same : Some x ≡ Some y → x ≡ y
+    same e = cc e
+
+module _ (c : Whole) (peer : ℕ) (told : Done) (logs : List (Option Keeping)) (disks left : List DiskSeen) (before : ℕ) (is : IsPeer c.core.members.shape peer) (steady : IsSteady c) (keeps : KeepsPeers c logs disks before)
+    (stored : HasStored (first_job peer c.core) (catalogue_of (home peer c.core) c.core).blocks (sealed_front c peer)) where
+  -- the log of a peer that is told of reads so
+  reads_so : (at : ℕ) (list : Numbered) → IsPeer c.core.members.shape at → log_of_peer c at ≡ Some list → (keeping : Keeping) → log_at logs at ≡ Some keeping → IsKept keeping ((disk_at (stands_of disks) at).seen keeping.log.side) list (appended_of at c.core)
+  reads_so at list there is_told keeping used =
+      let log : HasPeerLog c.core.members.shape logs disks at list (appended_of at c.core) = keeps.listed.each at list there is_told in
+      subst (λ (k : Keeping). IsKept k ((disk_at (stands_of disks) at).seen k.log.side) list (appended_of at c.core)) (same_log log.keeping keeping logs at log.used used) log.has.kept
+
+  pub job_pays : is_answer c.core peer told ≡ true → PaysFor peer told c.core logs disks left → HasAllPaid c.core peer told disks left
+  job_pays answer pays = let its = some_job c.core peer told answer in by its.0 its.1 (steady.asks peer its.0 is its.1)
+    where
+      own : (j : Job) → is_own (Some j) ≡ true → first_job peer c.core ≡ Some j → IsNextOwn c peer j → HasAllPaid c.core peer told disks left
+      own j usual first next = pays.own (ap is_own first ∙ usual) (sealed_front c peer) (appended_of peer c.core) (reads_so peer (sealed_front c peer) is next.log) stored
+
+      by : (j : Job) → first_job peer c.core ≡ Some j → AsksFor c peer j → HasAllPaid c.core peer told disks left
+      by (job.Append number entry) first next = own (job.Append number entry) refl first next
+      by (job.Seal number) first next = own (job.Seal number) refl first next
+      by (job.Read number) first next = own (job.Read number) refl first next
+      by job.Reset first next = pays.emptied first
+      by (job.Copy from number) first next =
+          pays.copied from number first (sealed_front c from) (appended_of from c.core) next.sealed.0 (reads_so from (sealed_front c from) next.there next.source) next.sealed.1
+      by job.Reclaim first next = absurd next
 
 -- ---- a call and its report
 
@@ -146,13 +197,14 @@ is_peer peer c core same is = subst (λ (x : Core). IsPeer x.members.shape peer)
 -- the job was not done, or its report did not come
 pub job_cut_lists : (before now peer : ℕ) (old new : Running) (after : List (Option Keeping)) (disks left : List DiskSeen) {E : Type 0} (result : Result Done E) → IsPeer old.core.members.shape peer → old.core.ended ≡ None → Since (stands_of disks)
     → Works (own_header old.core.members.shape peer) (record { peer = peer; before = before; now = now; logs = old.logs; after = after; disks = disks; left = left }) (first_job peer old.core) result
-    → ShowsLists (record { before = before; now = now; old = old; new = new; disks = disks; left = left }) (Err NoMemory) []
-job_cut_lists before now peer old new after disks left {E = E} result is was since works = record {
+    → NoneFalls disks left → ShowsLists (record { before = before; now = now; old = old; new = new; disks = disks; left = left }) (Err NoMemory) []
+job_cut_lists before now peer old new after disks left {E = E} result is was since works falls = record {
   lists = λ c core steady can.
       let w : Working = record { peer = peer; before = before; now = now; logs = old.logs; after = after; disks = disks; left = left } in
       let call = call_peers c w (steady (was_going c old core was)) (is_peer peer c old.core core is) can result (works_as peer w result c old.core core works) in
       call_lists c before now peer (stands_of disks) (stands_of left) since can.keeps call (record { before = before; now = now; old = old; new = new; disks = disks; left = left }) refl refl refl refl;
   goes_on = λ c core steady can. tt;
+  read = λ c core steady can stored. all_none old.core disks left falls;
 }
 
 -- the job was done, and its report came, unless memory ran out or it was refused
@@ -160,9 +212,10 @@ pub job_lists : (before now peer : ℕ) (old new : Running) (after : List (Optio
     → is_answer old.core peer done ≡ true → Since (stands_of disks)
     → Works {E = E} (own_header old.core.members.shape peer) (record { peer = peer; before = before; now = now; logs = old.logs; after = after; disks = disks; left = left }) (first_job peer old.core) (Ok done)
     → (IsHeadedAt (own_header old.core.members.shape peer) before old.logs disks peer → StaysHeadedAt (own_header old.core.members.shape peer) before now disks after left peer)
-    → new.logs ≡ after → Does (done_of r (event.Report peer done, now)) old new r → TellsBytes done
+    → new.logs ≡ after → Does (done_of r (event.Report peer done, now)) old new r → TellsBytes done → NoneFalls disks left
+    → PaysFor peer done old.core old.logs disks left
     → ShowsLists (record { before = before; now = now; old = old; new = new; disks = disks; left = left }) r (done_of r (event.Report peer done, now))
-job_lists before now peer old new after disks left E done r is was answer since works heads kept does bytes = record {
+job_lists before now peer old new after disks left E done r is was answer since works heads kept does bytes falls pays = record {
   lists = λ c core steady can.
       let steady_now = first_steady c e now (was_going c old core was) r steady in
       let call = called c core steady_now can in
@@ -178,6 +231,7 @@ job_lists before now peer old new after disks left E done r is was answer since 
         told = told_by c e now r (peers_told c w steady_now (low c core) can done now E (works_in c core) (answers c core), bytes);
       };
   goes_on = λ c core steady can. go r does c core steady can;
+  read = λ c core steady can stored. read_then c core (first_steady c e now (was_going c old core was) r steady) can (ran_out r) stored;
 }
   where
     e : Event
@@ -197,6 +251,13 @@ job_lists before now peer old new after disks left E done r is was answer since 
 
     heads_in : (c : Whole) → c.core ≡ old.core → IsHeadedAt (own_header c.core.members.shape peer) before old.logs disks peer → StaysHeadedAt (own_header c.core.members.shape peer) before now disks after left peer
     heads_in c core = subst (λ (x : Core). IsHeadedAt (own_header x.members.shape peer) before old.logs disks peer → StaysHeadedAt (own_header x.members.shape peer) before now disks after left peer) (sym core) heads
+
+    read_then : (c : Whole) → c.core ≡ old.core → IsSteady c → KeepsPeers c old.logs disks before → (b : Bool) → AreStored c (if b then [] else (e, now) ∷ []) → AreAllCounted old.core (if b then [] else (e, now) ∷ []) disks left
+    read_then c core steady can true stored = all_none old.core disks left falls
+    read_then c core steady can false stored =
+        all_one old.core e now (Ok tt) disks left falls
+        (subst (λ x. HasAllPaid x peer done disks left) core
+        (job_pays c peer done old.logs disks left before (low c core) steady can (stored.0 (was_going c old core was) peer) (answers c core) (subst (λ x. PaysFor peer done x old.logs disks left) (sym core) pays)))
 
     called : (c : Whole) → c.core ≡ old.core → IsSteady c → KeepsPeers c old.logs disks before → EachImageOfOne before now peer (stands_of disks) (stands_of left) (λ image. counts c peer ≡ true → GivesFine whole_machine c peer image)
     called c core steady can = call_peers c w steady (low c core) can (Ok done) (works_in c core)
@@ -223,6 +284,9 @@ lists_behind before mid now old here new disks between left r es fs does rise on
   goes_on = λ c core steady can.
       subst (λ s. OnOk r (KeepsPeers s new.logs left now)) (sym (runs_append c es fs))
       (second.goes_on (runs whole_machine c es) (core_then c core) (steady_back c es fs steady) (first.goes_on c core (front c core steady) can));
+  read = λ c core steady can stored.
+      all_then old.core here.core es fs disks between left (does.core refl) (first.read c core (front c core steady) can (stored_front c es fs stored))
+      (second.read (runs whole_machine c es) (core_then c core) (steady_back c es fs steady) (first.goes_on c core (front c core steady) can) (stored_back c es fs stored));
 }
   where
     core_then : (c : Whole) → c.core ≡ old.core → (runs whole_machine c es).core ≡ here.core

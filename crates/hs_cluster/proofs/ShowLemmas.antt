@@ -1,13 +1,14 @@
 -- What events show of the disks: one event, and one run of them behind another.
 use Rattle.std.proofs.Common.{◌≡◌, ◌∙◌, ap, sym, subst, ℕ, ◌≤◌, Bool, true, false, List, [], ◌∷◌, ◌++◌, Option, Some, None, refl, arith}
+use Rattle.std.proofs.lemmas.Bool.{true≢false}
 use Rattle.std.specs.Prelude.{IsSome, OnOk, Result, Ok, Err, ⊤, if◌then◌else◌}
 use Rattle.hs_cluster.proofs.CalmLemmas.{calm_one, calm_reported}
-use Rattle.hs_cluster.proofs.CountLemmas.{all_none, all_one, all_quiet, all_still, all_then, counted_none, counted_one, counted_quiet, counted_still, counted_then}
+use Rattle.hs_cluster.proofs.CountLemmas.{all_none, all_one, all_quiet, all_still, all_then, counted_none, counted_one, counted_quiet, counted_still, counted_then, untold_reported, untold_same, untold_then}
 use Rattle.hs_cluster.proofs.EventLemmas.{still_going}
 use Rattle.hs_cluster.proofs.HeadLemmas.{heads_behind, heads_cut, heads_next, heads_quiet, heads_shown}
 use Rattle.hs_cluster.proofs.PastLemmas.{Worked, job_past, leaves_then, on_any, own_first, past_quiet}
 use Rattle.hs_cluster.proofs.PeerEventLemmas.{SlotStays}
-use Rattle.hs_cluster.proofs.PeerShowLemmas.{begin_lists, cut_lists, job_cut_lists, job_lists, lists_behind, none_lists, quiet_lists}
+use Rattle.hs_cluster.proofs.PeerShowLemmas.{PaysFor, begin_lists, cut_lists, job_cut_lists, job_lists, lists_behind, none_lists, quiet_lists}
 use Rattle.hs_cluster.proofs.ReadLemmas.{quiet_reads, report_reads, some_job}
 use Rattle.hs_cluster.proofs.ReportLemmas.{call_fine, report_fine, report_logs, report_told}
 pub use Rattle.hs_cluster.proofs.StretchLemmas.{runs_core}
@@ -18,7 +19,7 @@ use Rattle.hs_cluster.specs.Calls.{Does, done_of, outcome_by, ran_out}
 use Rattle.hs_cluster.specs.Calm.{GoesCalmly}
 use Rattle.hs_cluster.specs.declared.fault.ClusterFault.{ClusterFault}
 use Rattle.hs_cluster.specs.declared.fault.ClusterFault.TheVariants.{NoMemory}
-use Rattle.hs_cluster.specs.Counts.{AllStandUntold, AreAllCounted, HasAllPaid, HasPaid, NoneFalls}
+use Rattle.hs_cluster.specs.Counts.{AllStandUntold, AreAllCounted, HasPaid, NoneFalls}
 use Rattle.hs_cluster.specs.Disks.{DiskSeen, log_at, stands_of}
 use Rattle.hs_cluster.specs.Headed.{IsHeadedAt, LeavesHeads, StaysHeadedAt}
 use Rattle.hs_cluster.specs.Jobs.{HasStored, ReadsOn, TellsBytes, Working, Works, WorksAlone, is_own}
@@ -69,6 +70,7 @@ pub quiet_shows : (e : Event) (now : ℕ) (old new : Running) (disks : List Disk
     → Shows ⊤ (record { before = now; now = now; old = old; new = new; disks = disks; left = disks }) r (done_of r (e, now))
 quiet_shows e now old new disks r quiet was does less stays = record {
   counted = counted_quiet old.core e now r disks quiet;
+  untold = λ out. untold_same old.core (done_of r (e, now)) disks;
   calm = λ first calm. calm_one e now old new first disks disks calm r does (λ disk. refl);
   past = λ told first calm peer holds. past_quiet now old.logs new.logs disks r peer less holds;
   lists = λ told c core can. record {
@@ -110,6 +112,7 @@ quiet_shows e now old new disks r quiet was does less stays = record {
 pub none_shows : (now : ℕ) (old new : Running) (disks : List DiskSeen) → Shows ⊤ (record { before = now; now = now; old = old; new = new; disks = disks; left = disks }) (Err NoMemory) []
 none_shows now old new disks = record {
   counted = counted_still old.core disks;
+  untold = λ out. untold_same old.core [] disks;
   calm = λ first calm. tt;
   past = λ told first calm peer holds. record { stays = (past_quiet now old.logs old.logs disks (Err NoMemory) peer (λ k keeping at. at) holds).stays; holds = tt };
   lists = λ told c core can. record {
@@ -130,6 +133,7 @@ none_shows now old new disks = record {
 pub begin_shows : (tells : Type 0) (now : ℕ) (old : Running) (disks : List DiskSeen) → Shows tells (record { before = now; now = now; old = old; new = old; disks = disks; left = disks }) (Ok tt) []
 begin_shows tells now old disks = record {
   counted = counted_still old.core disks;
+  untold = λ out. untold_same old.core [] disks;
   calm = λ first calm. calm;
   past = λ told first calm peer holds. past_quiet now old.logs old.logs disks (Ok tt) peer (λ k keeping at. at) holds;
   lists = λ told c core can. record {
@@ -148,11 +152,11 @@ begin_shows tells now old disks = record {
 
 -- whatever the disks tell
 pub any_shows : (tells : Type 0) (span : Span) (r : Result ⊤ ClusterFault) (es : Events) → Shows ⊤ span r es → Shows tells span r es
-any_shows tells span r es shows = record { counted = shows.counted; calm = shows.calm; past = λ told. shows.past tt; lists = λ told. shows.lists tt; goes_on = λ told. shows.goes_on tt; told = λ told. shows.told tt; read = λ told. shows.read tt; reads_on = λ told. shows.reads_on tt; headed = λ told. shows.headed tt; copies = λ told. shows.copies tt }
+any_shows tells span r es shows = record { counted = shows.counted; untold = shows.untold; calm = shows.calm; past = λ told. shows.past tt; lists = λ told. shows.lists tt; goes_on = λ told. shows.goes_on tt; told = λ told. shows.told tt; read = λ told. shows.read tt; reads_on = λ told. shows.reads_on tt; headed = λ told. shows.headed tt; copies = λ told. shows.copies tt }
 
 -- it is given up
 pub cut_shows : (tells : Type 0) (span : Span) (fault : ClusterFault) (es : Events) → Shows tells span (Ok tt) es → Shows tells span (Err fault) es
-cut_shows tells span fault es shows = record { counted = shows.counted; calm = λ first calm. tt; past = λ told first calm peer holds. record { stays = (shows.past told first calm peer holds).stays; holds = tt }; lists = shows.lists; goes_on = λ told c core can. tt; told = shows.told; read = shows.read; reads_on = λ told c core can. tt; headed = λ told peer headed. heads_cut (own_header span.old.core.members.shape peer) span.before span.now span.disks span.left span.new.logs span.new.logs (Ok tt) fault peer (shows.headed told peer headed); copies = λ told. cut_lists span fault es (shows.copies told) }
+cut_shows tells span fault es shows = record { counted = shows.counted; untold = λ out. shows.untold refl; calm = λ first calm. tt; past = λ told first calm peer holds. record { stays = (shows.past told first calm peer holds).stays; holds = tt }; lists = shows.lists; goes_on = λ told c core can. tt; told = shows.told; read = shows.read; reads_on = λ told c core can. tt; headed = λ told peer headed. heads_cut (own_header span.old.core.members.shape peer) span.before span.now span.disks span.left span.new.logs span.new.logs (Ok tt) fault peer (shows.headed told peer headed); copies = λ told. cut_lists span fault es (shows.copies told) }
 
 -- ---- a call and its report
 
@@ -166,6 +170,7 @@ pub job_cut : (tells : Type 0) (before now peer : ℕ) (old new : Running) (afte
     → Shows tells (record { before = before; now = now; old = old; new = new; disks = disks; left = left }) (Err NoMemory) []
 job_cut tells before now peer old new after disks left {E = E} result is up was since works any falls heads = record {
   counted = counted_none old.core disks left falls;
+  untold = λ out. absurd (true≢false out);
   calm = λ first calm. tt;
   past = λ told first calm k holds.
       let w : Working = record { peer = peer; before = before; now = now; logs = old.logs; after = after; disks = disks; left = left } in
@@ -183,7 +188,7 @@ job_cut tells before now peer old new after disks left {E = E} result is up was 
   reads_on = λ told c core can. tt;
   headed = λ told p headed.
       heads_cut (own_header old.core.members.shape p) before now disks left after new.logs (Err NoMemory) NoMemory p (heads_shown (own_header old.core.members.shape p) before now disks left after after (Err NoMemory) p refl (heads told p headed));
-  copies = λ told. job_cut_lists before now peer old new after disks left result is was (since told) (any told);
+  copies = λ told. job_cut_lists before now peer old new after disks left result is was (since told) (any told) falls;
 }
 
 -- the job was done, and its report came, unless memory ran out or it was refused
@@ -191,16 +196,16 @@ pub job_shows : (tells : Type 0) (before now peer : ℕ) (old new : Running) (af
     → old.core.ended ≡ None → is_answer old.core peer done ≡ true → (tells → Since (stands_of disks))
     → (tells → is_own (first_job peer old.core) ≡ true → WorksAlone {E = E} (record { peer = peer; before = before; now = now; logs = old.logs; after = after; disks = disks; left = left }) (first_job peer old.core) (Ok done))
     → new.logs ≡ after → Does (done_of r (event.Report peer done, now)) old new r → NoneFalls disks left → HasPaid old.core peer done disks left → AllStandUntold done disks left → TellsBytes done
-    → (tells → is_own (first_job peer old.core) ≡ true → (list : Numbered) (waiting : Option Entry) → ((keeping : Keeping) → log_at old.logs peer ≡ Some keeping → IsKept keeping ((disk_at (stands_of disks) peer).seen keeping.log.side) list waiting)
-    → HasStored (first_job peer old.core) (catalogue_of (home peer old.core) old.core).blocks list → HasAllPaid old.core peer done disks left)
     → (is_own (first_job peer old.core) ≡ true → IsSome (log_at old.logs peer))
     → (tells → is_own (first_job peer old.core) ≡ true → (list : Numbered) (waiting : Option Entry) → ((keeping : Keeping) → log_at old.logs peer ≡ Some keeping → IsKept keeping ((disk_at (stands_of disks) peer).seen keeping.log.side) list waiting)
     → (j : Job) → first_job peer old.core ≡ Some j → ReadsOn (log_at after peer) (disk_at (stands_of left) peer) j list waiting done)
     → (tells → Works {E = E} (own_header old.core.members.shape peer) (record { peer = peer; before = before; now = now; logs = old.logs; after = after; disks = disks; left = left }) (first_job peer old.core) (Ok done))
     → (tells → (p : ℕ) → IsHeadedAt (own_header old.core.members.shape p) before old.logs disks p → StaysHeadedAt (own_header old.core.members.shape p) before now disks after left p)
+    → (tells → PaysFor peer done old.core old.logs disks left)
     → Shows tells (record { before = before; now = now; old = old; new = new; disks = disks; left = left }) r (done_of r (event.Report peer done, now))
-job_shows tells before now peer old new after disks left E done r is up was answer since works kept does falls paid stands bytes all had reads any heads = record {
+job_shows tells before now peer old new after disks left E done r is up was answer since works kept does falls paid stands bytes had reads any heads pays = record {
   counted = counted_one old.core (event.Report peer done) now r disks left falls paid;
+  untold = untold_reported old.core peer now done r disks left stands;
   calm = λ first calm. calm_reported peer now done old new first disks left r calm answer does stands;
   past = λ told first calm k holds. past_then told first calm k holds;
   lists = λ told c core can.
@@ -221,7 +226,7 @@ job_shows tells before now peer old new after disks left E done r is up was answ
   read = λ told c core can stored. read_then told c core can (ran_out r) stored;
   reads_on = λ told c core can. reading r does told c core can;
   headed = λ told p headed. heads_shown (own_header old.core.members.shape p) before now disks left after new.logs r p kept (heads told p headed);
-  copies = λ told. job_lists before now peer old new after disks left E done r is was answer (since told) (any told) (heads told peer) kept does bytes;
+  copies = λ told. job_lists before now peer old new after disks left E done r is was answer (since told) (any told) (heads told peer) kept does bytes falls (pays told);
 }
   where
     e : Event
@@ -272,7 +277,7 @@ job_shows tells before now peer old new after disks left E done r is up was answ
     read_then told c core can true stored = all_none old.core disks left falls
     read_then told c core can false stored =
         all_one old.core e now (Ok tt) disks left falls
-        (all told (own_in c core can.sane) (sealed_front c peer) (appended_of peer c.core) (λ keeping at. can.listed.each peer keeping (low_in c core) at)
+        ((pays told).own (own_in c core can.sane) (sealed_front c peer) (appended_of peer c.core) (λ keeping at. can.listed.each peer keeping (low_in c core) at)
         (subst (λ x. HasStored (first_job peer x) (catalogue_of (home peer x) x).blocks (sealed_front c peer)) core (stored.0 (ap (λ (x : Core). x.ended) core ∙ was) peer)))
 
     keeps_then : tells → (c : Whole) → c.core ≡ old.core → CanGoOn c old.logs disks before → is_refused (step e now c.core).ended ≡ false → Keeps whole_machine (step_whole e now c) now (stands_of left)
@@ -307,6 +312,7 @@ pub shows_then : (tells : Type 0) (before mid now : ℕ) (old here new : Running
     → Shows tells (record { before = before; now = now; old = old; new = new; disks = disks; left = left }) r (es ++ fs)
 shows_then tells before mid now old here new disks between left r es fs does rise on first second = record {
   counted = counted_then old.core here.core es fs disks between left (does.core refl) first.counted second.counted;
+  untold = λ out. untold_then old.core here.core es fs disks between left (does.core refl) (first.untold refl) (second.untold out);
   calm = λ entry calm. second.calm entry (first.calm entry calm);
   past = λ told entry calm k holds.
       let one = first.past told entry calm k holds in

@@ -3,7 +3,7 @@ use Rattle.std.specs.List.{AllPairs}
 use Rattle.std.specs.Prelude.{◌≡◌, ◌⊎◌, ◌++◌, ◌<◌, ◌≤◌, ℕ, ⊤, List, length, not, Contains, Option, None, Some, IsSome, OnOk, Result, false, is_some, true, slice_index_or}
 use Rattle.hs_cluster.specs.Calls.{outcome_by, ran_out}
 use Rattle.hs_cluster.specs.Calm.{GoesCalmly}
-use Rattle.hs_cluster.specs.Counts.{AreAllCounted, AreCounted, NoneFalls}
+use Rattle.hs_cluster.specs.Counts.{AreAllCounted, AreCounted, NoneFalls, UntoldStand}
 use Rattle.hs_cluster.specs.declared.fault.ClusterFault.{ClusterFault}
 use Rattle.hs_cluster.specs.Headed.{IsOwnAt, LeavesHeads}
 use Rattle.hs_cluster.specs.Kept.{AreStored, AreTold, CanGoOn, CanRead, LeavesLists, ShowsLists}
@@ -134,6 +134,8 @@ pub record Opens (tells : Type 0) (set : Setting) (span : Span) (cluster : Runni
   -- no count fell before the turns; what these report of failed calls is at the counts, and a core that goes on has room
   pub falls : NoneFalls span.old disks
   pub counted : AreCounted (first_core set found) events disks span.new
+  -- and no other count rises by them, but where memory ran out
+  pub untold : ran_out done ≡ false → UntoldStand (first_core set found) events disks span.new
   pub rooms : HaveRecordRoom (first_core set found) events
   -- where the core goes on no disk failed since entry
   pub calm : set.shape.copies ≡ 1 → OnOk done (GoesCalmly cluster.core span.old span.new)

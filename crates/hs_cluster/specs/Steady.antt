@@ -26,13 +26,14 @@ use Rattle.hs_peerlog.specs.Lists.{numbered_entry}
 
 -- ---- before an event
 
--- a peer that follows copies, from another one's log, the entry of a number that is sealed there: just that may be added to its list
+-- a peer that follows copies, from another one's log, the entry of a number, which is sealed there: just that may be added to its list
 pub record IsNextCopy (c : Whole) (peer from number : ℕ) : Type 0 where
   pub there : IsPeer c.core.members.shape from
   pub other : from ≢ peer
   pub source : log_of_peer c from ≡ Some (sealed_front c from)
   pub follows : log_of_peer c peer ≡ Some (c.lists peer)
   pub unsealed : floor c peer ≡ 0
+  pub sealed : (entry : Entry) × (numbered_entry (sealed_front c from) number ≡ Some entry)
   pub added : (entry : Entry) → numbered_entry (sealed_front c from) number ≡ Some entry → c.adds peer ≡ (number, entry) ∷ []
 
 -- a good peer has the log of what it has sealed, and its job asks for the next entry there, or reads

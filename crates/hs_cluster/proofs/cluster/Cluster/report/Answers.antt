@@ -1,19 +1,20 @@
 use Rattle.std.proofs.Common.{◌≡◌, ℕ, Some, ap, arith, false, map, refl, subst, sym, true}
 use Rattle.std.specs.Prelude.{IsSome, Ok, Option}
 use Rattle.hs_cluster.proofs.DiskLemmas.{since_of}
+use Rattle.hs_cluster.proofs.PeerShowLemmas.{PaysFor}
 use Rattle.hs_cluster.proofs.ShowLemmas.{does_same, job_cut, job_shows}
 use Rattle.hs_cluster.proofs.WalkLemmas.{event_due, nothing_due, report_is_it}
 use Rattle.hs_cluster.specs.Calls.{Does, done_of}
 use Rattle.hs_cluster.specs.declared.fault.ClusterFault.{ClusterFault}
-use Rattle.hs_cluster.specs.Counts.{HasAllPaid, HasPaid}
+use Rattle.hs_cluster.specs.Counts.{HasPaid}
 use Rattle.hs_cluster.specs.Disks.{DiskSeen, log_at, seen_as, stands_of}
 use Rattle.hs_cluster.specs.Growing.{GoesOn}
 use Rattle.hs_cluster.specs.Headed.{IsHeadedAt, StaysHeadedAt}
-use Rattle.hs_cluster.specs.Jobs.{HasStored, ReadsOn, StandsBeside, Works, WorksAlone, is_own}
+use Rattle.hs_cluster.specs.Jobs.{ReadsOn, StandsBeside, Works, WorksAlone, is_own}
 use Rattle.hs_cluster.specs.Running.{Running}
 use Rattle.hs_core_words.specs.declared.event.Event.{Event}
 use Rattle.hs_core_words.specs.declared.event.Event.TheVariants as event
-use Rattle.hs_core_words.specs.Looking.{catalogue_of, first_job, home, status_of}
+use Rattle.hs_core_words.specs.Looking.{first_job, status_of}
 use Rattle.hs_desk.specs.declared.job.Job.{Job}
 use Rattle.hs_entry.specs.declared.entry.Entry.{Entry}
 use Rattle.hs_events.specs.declared.due.Due.TheVariants.{Reporting}
@@ -80,10 +81,6 @@ returns-clause-does g c = λ line.
     }) (first_job c.args.peer r.core) (Ok c.in-Ok.done)) c.self.view_is (λ own. (c.in-Ok.ensures.works told).alone own))
     c.step.ensures.logs does c.do_job-done.ensures.later
     (subst (λ (r : Running). HasPaid r.core c.args.peer c.in-Ok.done (map f c.args.disks.now) (map f c.do_job-done.new.disks)) c.self.view_is c.in-Ok.ensures.paid) c.in-Ok.ensures.calm c.in-Ok.ensures.bytes
-    (λ told. subst (λ (r : Running). is_own (first_job c.args.peer r.core) ≡ true → (list : Numbered) (waiting : Option Entry)
-    → ((keeping : Keeping) → log_at r.logs c.args.peer ≡ Some keeping → IsKept keeping ((disk_at (stands_of (map f c.args.disks.now)) c.args.peer).seen keeping.log.side) list waiting)
-    → HasStored (first_job c.args.peer r.core) (catalogue_of (home c.args.peer r.core) r.core).blocks list → HasAllPaid r.core c.args.peer c.in-Ok.done (map f c.args.disks.now) (map f c.do_job-done.new.disks))
-    c.self.view_is (c.in-Ok.ensures.read told))
     (subst (λ (r : Running). is_own (first_job c.args.peer r.core) ≡ true → IsSome (log_at r.logs c.args.peer)) c.self.view_is c.in-Ok.ensures.had)
     (λ told. subst (λ (r : Running). is_own (first_job c.args.peer r.core) ≡ true → (list : Numbered) (waiting : Option Entry)
     → ((keeping : Keeping) → log_at r.logs c.args.peer ≡ Some keeping → IsKept keeping ((disk_at (stands_of (map f c.args.disks.now)) c.args.peer).seen keeping.log.side) list waiting)
@@ -99,7 +96,9 @@ returns-clause-does g c = λ line.
       left = map f c.do_job-done.new.disks;
     }) (first_job c.args.peer r.core) (Ok c.in-Ok.done)) c.self.view_is (c.in-Ok.ensures.works told))
     (λ told. subst (λ (r : Running). (p : ℕ) → IsHeadedAt (own_header r.core.members.shape p) c.args.watch.now r.logs (map f c.args.disks.now) p
-    → StaysHeadedAt (own_header r.core.members.shape p) c.args.watch.now c.do_job-done.new.watch (map f c.args.disks.now) c.do_job-done.new.logs.items (map f c.do_job-done.new.disks) p) c.self.view_is (c.do_job-done.ensures.headed told)))
+    → StaysHeadedAt (own_header r.core.members.shape p) c.args.watch.now c.do_job-done.new.watch (map f c.args.disks.now) c.do_job-done.new.logs.items (map f c.do_job-done.new.disks) p) c.self.view_is (c.do_job-done.ensures.headed told))
+    (λ told. subst (λ (r : Running). PaysFor c.args.peer c.in-Ok.done r.core r.logs (map f c.args.disks.now) (map f c.do_job-done.new.disks)) c.self.view_is
+    (record { own = c.in-Ok.ensures.read told; emptied = c.in-Ok.ensures.emptied; copied = c.in-Ok.ensures.copied told })))
 
 pub returns-in_default-clause-beside : goal.returns-in_default-clause-beside
 returns-in_default-clause-beside g c =
