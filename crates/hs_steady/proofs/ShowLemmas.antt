@@ -2,9 +2,10 @@
 use Rattle.std.proofs.Common.{◌≡◌, ◌∙◌, ap, sym, refl, ℕ, ◌≤◌, [], ◌∷◌, Option, Some, None, is_none}
 use Rattle.std.specs.Prelude.{⊤, OnOk, Result}
 use Rattle.hs_awaiting.specs.Words.{change_if}
+use Rattle.hs_cluster.specs.Counts.{AreAllCounted}
 use Rattle.hs_cluster.specs.declared.fault.ClusterFault.{ClusterFault}
 use Rattle.hs_cluster.specs.Disks.{seen_at}
-use Rattle.hs_cluster.specs.Kept.{LeavesLists, ShowsLists, Span}
+use Rattle.hs_cluster.specs.Kept.{AreStored, LeavesLists, ShowsLists, Span}
 use Rattle.hs_cluster.specs.Opens.{OpensLists}
 use Rattle.hs_cluster.specs.PeerLogs.{KeepsPeers}
 use Rattle.hs_cluster.specs.RunsOn.{RunsOn, from_opening}
@@ -62,3 +63,8 @@ opened_shows set found events span shows may on = shows (open_whole set found) (
 pub run_shows : (tells : Type 0) (set : Setting) (span : Span) (found : Found) (events : Events) (on : RunsOn tells set span found events) → tells → ((peer : ℕ) → (seen_at span.disks peer).stands.last ≤ span.before) → MayOpenWhole set found
     → (first_core set found).ended ≡ None → LeavesLists (open_whole set found) events (from_opening found on.disks span)
 run_shows tells set span found events on told called may going = opened_shows set found events (from_opening found on.disks span) (on.copies told called) may going
+
+-- and there reads too cost what they tell of failed calls, where what is to be read stands in the lists
+pub run_reads : (tells : Type 0) (set : Setting) (span : Span) (found : Found) (events : Events) (on : RunsOn tells set span found events) → tells → ((peer : ℕ) → (seen_at span.disks peer).stands.last ≤ span.before) → MayOpenWhole set found
+    → (first_core set found).ended ≡ None → AreStored (open_whole set found) events → AreAllCounted (first_core set found) events on.disks span.left
+run_reads tells set span found events on told called may going stored = on.reads told called (open_whole set found) (opens_lists set found may going) (opens_steady set found events may) stored
