@@ -25,11 +25,12 @@ use Rattle.hs_limits.specs.declared.shape.Shape.{Shape}
 use Rattle.hs_measure.proofs.AlongLemmas.{TellLaws}
 use Rattle.hs_ports.specs.Fault.{HasRisen}
 use Rattle.hs_ports.specs.Objects.{RoseBy}
+use Rattle.hs_promise.specs.Completes.{entries_most}
 use Rattle.hs_room.proofs.LostLemmas.{FellIn, all_own, lost_by}
 use Rattle.hs_room.proofs.NotedLemmas.{mute_all}
 use Rattle.hs_room.proofs.RiseLemmas.{most_rises}
 use Rattle.hs_room.proofs.SoFarLemmas.{RunHasRoom, alone_none, front_alone, front_room, more, mute_noting, noting, so_has_room}
-use Rattle.hs_room.specs.Room.{Call, EndsWell, HasRoom, IsSoFar, LossBy, LossCause, entries_most, starts_in}
+use Rattle.hs_room.specs.Room.{Call, EndsWell, HasRoom, IsSoFar, LossBy, LossCause, starts_in}
 use Rattle.hs_room.specs.Room.LossBy.{ByCount, ByReading}
 use Rattle.hs_settled.proofs.AskLemmas.{AllIts, Stays, its_ask, its_stay}
 use Rattle.hs_settled.proofs.CausesRunLemmas.{mute}

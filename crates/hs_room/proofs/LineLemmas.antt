@@ -18,10 +18,11 @@ use Rattle.hs_measure.proofs.AlongLemmas.{Comes, LineLaws, may_come}
 use Rattle.hs_measure.proofs.LineLemmas.{are as line_are, at as line_at, come as line_come, comes as line_comes}
 use Rattle.hs_measure.specs.Between.{IsInRun}
 use Rattle.hs_model.specs.declared.command.Command.{Command}
+use Rattle.hs_promise.specs.Completes.{entries_most}
 use Rattle.hs_room.proofs.CallLemmas.{CallLaws, by_report, call_alone, call_ends, call_moments, call_so_far, lost_line, not_full}
 use Rattle.hs_room.proofs.LostLemmas.{FellIn}
 use Rattle.hs_room.proofs.SoFarLemmas.{numbered}
-use Rattle.hs_room.specs.Room.{Call, EndsWell, IsSoFar, KeepsRoom, LossCause, entries_most, starts_in}
+use Rattle.hs_room.specs.Room.{Call, EndsWell, IsSoFar, KeepsRoom, LossCause, starts_in}
 use Rattle.hs_room.specs.Room.LossBy.{ByLine}
 use Rattle.hs_settled.proofs.AskLemmas.{AllIts, line_its}
 use Rattle.hs_settled.proofs.CausesRunLemmas.{mute, mute_is}

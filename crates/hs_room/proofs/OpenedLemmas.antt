@@ -24,11 +24,12 @@ use Rattle.hs_measure.specs.Between.{start_of}
 use Rattle.hs_model.specs.declared.command.Command.{Command}
 use Rattle.hs_model.specs.declared.command.Command.TheVariants as command
 use Rattle.hs_ports.specs.Objects.{RoseBy}
+use Rattle.hs_promise.specs.Completes.{entries_most}
 use Rattle.hs_room.proofs.CallLemmas.{CallLaws, by_report, call_alone, call_ends, call_moments, call_so_far, lost_line, not_full}
 use Rattle.hs_room.proofs.LostLemmas.{FellIn}
 use Rattle.hs_room.proofs.SoFarLemmas.{first_so_far}
 use Rattle.hs_room.proofs.StartedLemmas.{starts_or}
-use Rattle.hs_room.specs.Room.{Call, EndsWell, IsSoFar, KeepsRoom, LossCause, entries_most, starts_in}
+use Rattle.hs_room.specs.Room.{Call, EndsWell, IsSoFar, KeepsRoom, LossCause, starts_in}
 use Rattle.hs_settled.proofs.AskLemmas.{AllIts, opening_its}
 use Rattle.hs_settled.proofs.CausesRunLemmas.{mute}
 use Rattle.hs_sound.specs.Stay.{AreSoundAlong}

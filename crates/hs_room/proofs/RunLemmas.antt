@@ -18,6 +18,7 @@ use Rattle.hs_limits.specs.declared.limits.Limits.{Limits}
 use Rattle.hs_measure.specs.Promised.{KeepsPromise}
 use Rattle.hs_model.specs.declared.command.Command.{Command}
 use Rattle.hs_model.specs.declared.command.Command.TheVariants as command
+use Rattle.hs_promise.specs.Completes.{deletes_up_to, entries_most}
 use Rattle.hs_promise.specs.Ending.{ending_of}
 use Rattle.hs_promise.specs.Run.{Ran, Script}
 use Rattle.hs_promise.specs.Story.{Story, all_events, last_core}
@@ -26,7 +27,7 @@ use Rattle.hs_room.proofs.CalmLemmas.{RoomLaws, line_within, most_of, noted_last
 use Rattle.hs_room.proofs.NotedLemmas.{Noting}
 use Rattle.hs_room.proofs.RiseLemmas.{most_more}
 use Rattle.hs_room.proofs.StartedLemmas.{heard_sum, heards, heards_long, unheard_line}
-use Rattle.hs_room.specs.Room.{deletes_up_to, entries_most, starts_in}
+use Rattle.hs_room.specs.Room.{starts_in}
 use Rattle.hs_settled.proofs.CausesRunLemmas.{all_ask_so, all_come_so, flat_is, last_line, mute, mute_some, opened_kept}
 use Rattle.hs_settled.proofs.EndsCountLemmas.{many, many-counted}
 use Rattle.hs_settled.proofs.KeptLemmas.{all_own}

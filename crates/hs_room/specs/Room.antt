@@ -1,5 +1,4 @@
 -- How many entries a journal has at most, by the lines that came; and how a call of a cluster ends whose journal has room.
-use Rattle.std.specs.List.{range_with_len}
 use Rattle.std.specs.Option.{option_map_or}
 use Rattle.std.specs.Prelude.{◌≡◌, ◌<◌, ◌≤◌, ℕ, ◌+◌, ◌*◌, ◌==◌, ◌&&◌, ⊤, Bool, true, false, cond, List, [], ◌∷◌, Option, Some, None, Result, Ok, Err, count_by, if◌then◌else◌, is_none, is_some, length, take}
 use Rattle.hs_cluster.specs.Calls.{ran_out}
@@ -17,7 +16,6 @@ use Rattle.hs_events.specs.Course.{steps}
 use Rattle.hs_events.specs.Due.{Events}
 use Rattle.hs_events.specs.Found.{Found, first_core}
 use Rattle.hs_events.specs.Reports.{failures}
-use Rattle.hs_events.specs.Taken.{peer_count}
 use Rattle.hs_limits.specs.declared.shape.Shape.{Shape}
 use Rattle.hs_limits.specs.Shape.{peer_of}
 use Rattle.hs_model.specs.declared.command.Command.{Command}
@@ -25,26 +23,12 @@ use Rattle.hs_model.specs.declared.command.Command.TheVariants as command
 use Rattle.hs_model.specs.declared.op.Op.TheVariants as op
 use Rattle.hs_model.specs.Refusals.{first}
 use Rattle.hs_ports.specs.Fault.{HasRisen}
+use Rattle.hs_promise.specs.Completes.{entries_most}
 use Rattle.hs_settled.specs.Noted.{AllAreOwn}
 use Rattle.hs_standing.specs.Run.{MayRun, RunBegins}
 use Rattle.hs_standing.specs.Standing.{AllMayKeep}
 use Rattle.hs_standing.specs.Start.{Start}
 use Rattle.hs_told.specs.InTurn.{told_of}
-
--- ---- the lines up to one
-
--- a command is a client's deletion
-abbrev pub is_delete : Option Command → Bool
-is_delete (Some (command.Client op.Delete)) = true
-is_delete other = false
-
--- how many of the lines up to one have such a command
-abbrev pub deletes_up_to : (ℕ → Option Command) → ℕ → ℕ
-deletes_up_to commands line = count_by (λ n. is_delete (commands n)) (range_with_len 1 line)
-
--- the most entries of a run up to a line: one a line; twice as many for a shard and one for the store as epochs may pass, which are two more than deletions; and one a peer
-abbrev pub entries_most : (ℕ → Option Command) → Shape → ℕ → ℕ
-entries_most commands shape line = line + (2 * shape.shards + 1) * (deletes_up_to commands line + 2) + peer_count shape
 
 -- ---- a core
 

@@ -1,10 +1,10 @@
 //! A run whose journal has room.
 ghost use Rattle.std.specs.Prelude.{◌≡◌, ◌≤◌, ℕ};
 ghost use Rattle.hs_clauses.specs.Shown.{RunsSoundly};
+ghost use Rattle.hs_promise.specs.Completes.{entries_most};
 ghost use Rattle.hs_promise.specs.Run.{Ran, Script};
 ghost use Rattle.hs_promise.specs.Story.{Story};
 ghost use Rattle.hs_promise.specs.declared.status.Status.TheVariants as status;
-ghost use Rattle.hs_room.specs.Room.{entries_most};
 
 use hs_clauses::a_run_stands;
 use hs_measure::each_event_keeps_the_promise;
