@@ -268,6 +268,31 @@ can_later tells set found before now later begun cluster disks left es ticks can
 
 -- ---- another cache, in which nothing is kept
 
+lists_beside : (c : Whole) (es : Events) (before now : ℕ) (begun cluster other : Running) (disks left : List DiskSeen) → LeavesLists c es (record { before = before; now = now; old = begun; new = cluster; disks = disks; left = left })
+    → LeavesLists c es (record { before = before; now = now; old = begun; new = other; disks = disks; left = left })
+lists_beside c es before now begun cluster other disks left h = record { earlier = h.earlier; moments = h.moments; keeps = h.keeps; told = h.told }
+
+-- what was shown so far is so whatever the cluster is then
+pub runs_beside : (tells : Type 0) (set : Setting) (found : Found) (before now : ℕ) (begun cluster other : Running) (disks left : List DiskSeen) (es : Events)
+    → RunsOn tells set (record { before = before; now = now; old = begun; new = cluster; disks = disks; left = left }) found es
+    → RunsOn tells set (record { before = before; now = now; old = begun; new = other; disks = disks; left = left }) found es
+runs_beside tells set found before now begun cluster other disks left es so_far = record {
+  slots = so_far.slots;
+  disks = so_far.disks;
+  finds = so_far.finds;
+  own = so_far.own;
+  falls = so_far.falls;
+  counted = so_far.counted;
+  rooms = so_far.rooms;
+  still = so_far.still;
+  past = so_far.past;
+  headed = so_far.headed;
+  lists = λ one told sound first. lists_beside (open_whole set found) es before now begun cluster other disks left (so_far.lists one told sound first);
+  told = so_far.told;
+  read = so_far.read;
+  copies = λ told called x opens steady. lists_beside x es found.opened now begun cluster other so_far.disks left (so_far.copies told called x opens steady);
+}
+
 pub can_cache : (tells : Type 0) (set : Setting) (found : Found) (before now : ℕ) (begun cluster : Running) (cache : Option Cached) (disks left : List DiskSeen) (es : Events) → pairs_of cache ≡ []
     → CanRunOn tells set (record { before = before; now = now; old = begun; new = cluster; disks = disks; left = left }) found es
     → CanRunOn tells set (record { before = before; now = now; old = begun; new = record cluster { cache = cache }; disks = disks; left = left }) found es

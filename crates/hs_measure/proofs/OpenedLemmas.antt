@@ -3,7 +3,7 @@ use Rattle.std.proofs.Common.{◌≡◌, ◌≢◌, ◌⊎◌, ◌∙◌, inl, i
 use Rattle.std.proofs.lemmas.Bool.{cases_eq, cases_lt}
 use Rattle.std.proofs.lemmas.List.{get_or_past}
 use Rattle.std.specs.List.{AllByRecursion, list_any, range_with_len}
-use Rattle.std.specs.Prelude.{⊤, Result, Ok, slice_index_or, unwrap_or}
+use Rattle.std.specs.Prelude.{⊤, OnOk, Result, Ok, slice_index_or, unwrap_or}
 use Rattle.hs_answered.specs.Telling.{Judging}
 use Rattle.hs_standing.proofs.AddressedLemmas.{settle_addressed}
 use Rattle.hs_clauses.proofs.FirstLemmas.{opens_first}
