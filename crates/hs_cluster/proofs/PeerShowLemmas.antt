@@ -7,6 +7,8 @@ use Rattle.hs_cluster.proofs.PeerEventLemmas.{SlotStays, quiet_fine, quiet_peers
 use Rattle.hs_cluster.proofs.PeerReportLemmas.{call_peers, peers_told, report_peers, report_peers_fine}
 use Rattle.hs_cluster.proofs.ReadLemmas.{some_job}
 use Rattle.hs_cluster.proofs.StretchLemmas.{call_earlier, call_keeps, call_lists, call_moments, lists_then, none_yet, runs_append, runs_core, step_going, stored_back, stored_front, told_by}
+use Rattle.hs_cluster.proofs.CachedLemmas.{cached_as, cached_blocks, cached_on, cached_read}
+use Rattle.hs_cluster.specs.Cached.{AreBlocks, AreCached, KeepsRead}
 use Rattle.hs_cluster.specs.Calls.{Does, done_of, ran_out}
 use Rattle.hs_cluster.specs.Counts.{AreAllCounted, HasAllPaid, NoneFalls}
 use Rattle.hs_cluster.specs.declared.fault.ClusterFault.{ClusterFault}
@@ -20,21 +22,23 @@ use Rattle.hs_cluster.specs.Running.{Running}
 use Rattle.hs_cluster.specs.Steady.{AreSteady, AsksFor, GoesAlong, IsNextOwn, IsSteady, StepsSteadily}
 use Rattle.hs_core_words.specs.declared.event.Event.{Event}
 use Rattle.hs_core_words.specs.declared.event.Event.TheVariants as event
-use Rattle.hs_core_words.specs.Looking.{catalogue_of, first_job, home}
+use Rattle.hs_core_words.specs.Looking.{catalogue_of, first_job, home, front_of}
 use Rattle.hs_core_words.specs.State.{Core}
 use Rattle.hs_core_words.specs.Step.{step}
 use Rattle.hs_desk.specs.declared.done.Done.{Done}
+use Rattle.hs_desk.specs.declared.job.Job.TheVariants as job
 use Rattle.hs_desk.specs.declared.fault.CoreFault.{CoreFault}
 use Rattle.hs_desk.specs.declared.job.Job.{Job}
-use Rattle.hs_desk.specs.declared.job.Job.TheVariants as job
 use Rattle.hs_entry.specs.declared.entry.Entry.{Entry}
 use Rattle.hs_events.specs.Asked.{report_in}
 use Rattle.hs_events.specs.Course.{happened, is_refused, steps}
 use Rattle.hs_events.specs.Due.{Events, MomentsRise, is_answer}
+use Rattle.hs_events.specs.Reports.{TellsOf}
 use Rattle.hs_events.specs.Sane.{appended_of}
 use Rattle.hs_events.specs.Whole.{Whole, counts, step_whole}
 use Rattle.hs_fold.specs.Shards.Setting.{Numbered}
 use Rattle.hs_members.specs.Members.{IsPeer}
+use Rattle.hs_moments.proofs.CoreLemmas.{shape_at}
 use Rattle.hs_moments.proofs.MomentLemmas.{call-keeps, quiet-keeps}
 use Rattle.hs_moments.specs.Machine.{runs}
 use Rattle.hs_moments.specs.Moments.{EachImageOfOne, GivesFine, Grows, Keeps, Since}
@@ -96,9 +100,9 @@ was_going : (c : Whole) (old : Running) → c.core ≡ old.core → old.core.end
 was_going c old core was = ap (λ (x : Core). x.ended) core ∙ was
 
 pub quiet_lists : (e : Event) (now : ℕ) (old new : Running) (disks : List DiskSeen) (r : Result ⊤ ClusterFault) → report_in e ≡ None → old.core.ended ≡ None → Does (done_of r (e, now)) old new r
-    → ((p : ℕ) → SlotStays e old.logs new.logs p) → ShowsLists (record { before = now; now = now; old = old; new = new; disks = disks; left = disks }) r (done_of r (e, now))
-quiet_lists e now old new disks r quiet was does stays = record {
-  lists = λ c core steady can. record {
+    → ((p : ℕ) → SlotStays e old.logs new.logs p) → new.cache ≡ old.cache → ShowsLists (record { before = now; now = now; old = old; new = new; disks = disks; left = disks }) r (done_of r (e, now))
+quiet_lists e now old new disks r quiet was does stays same = record {
+  lists = λ c core steady can has. record {
     earlier = λ peer m side low fits. refl;
     moments = record { fine = λ m peer low high fits counted image left. absurd (omega (arith, low, high)) };
     keeps = goes_behind c e now (was_going c old core was) (λ s. Keeps whole_machine s now (stands_of disks)) r steady can.keeps
@@ -108,8 +112,16 @@ quiet_lists e now old new disks r quiet was does stays = record {
   };
   goes_on = λ c core steady can. go r does c core steady can;
   read = λ c core steady can stored. all_quiet old.core e now r disks quiet;
+  cached = λ c core steady can has. on r does c core steady has;
 }
   where
+    on : (r : Result ⊤ ClusterFault) → Does (done_of r (e, now)) old new r → (c : Whole) → c.core ≡ old.core → AreSteady c (done_of r (e, now)) → AreCached c old.cache → OnOk r (AreCached (runs whole_machine c (done_of r (e, now))) new.cache)
+    on (Err fault) does c core steady has = tt
+    on (Ok done) does c core steady has =
+        let going : (step e now c.core).ended ≡ None = ap (λ x. (step e now x).ended) core ∙ step_going e now old new does in
+        cached_as (step_whole e now c) old.cache new.cache same
+        (cached_on c (step_whole e now c) old.cache (shape_at c.core e now) ((steady.0 (was_going c old core was)).1.on going).effect has)
+
     go : (r : Result ⊤ ClusterFault) → Does (done_of r (e, now)) old new r → (c : Whole) → c.core ≡ old.core → AreSteady c (done_of r (e, now)) → KeepsPeers c old.logs disks now
         → OnOk r (KeepsPeers (runs whole_machine c (done_of r (e, now))) new.logs disks now)
     go (Err fault) does c core steady can = tt
@@ -120,7 +132,7 @@ quiet_lists e now old new disks r quiet was does stays = record {
 -- nothing was done, and nothing came
 pub none_lists : (now : ℕ) (old new : Running) (disks : List DiskSeen) → ShowsLists (record { before = now; now = now; old = old; new = new; disks = disks; left = disks }) (Err NoMemory) []
 none_lists now old new disks = record {
-  lists = λ c core steady can. record {
+  lists = λ c core steady can has. record {
     earlier = λ peer m side low fits. refl;
     moments = record { fine = λ m peer low high fits counted image left. absurd (omega (arith, low, high)) };
     keeps = can.keeps;
@@ -128,11 +140,12 @@ none_lists now old new disks = record {
   };
   goes_on = λ c core steady can. tt;
   read = λ c core steady can stored. all_still old.core disks;
+  cached = λ c core steady can has. tt;
 }
 
 pub begin_lists : (now : ℕ) (old : Running) (disks : List DiskSeen) → ShowsLists (record { before = now; now = now; old = old; new = old; disks = disks; left = disks }) (Ok tt) []
 begin_lists now old disks = record {
-  lists = λ c core steady can. record {
+  lists = λ c core steady can has. record {
     earlier = λ peer m side low fits. refl;
     moments = record { fine = λ m peer low high fits counted image left. absurd (omega (arith, low, high)) };
     keeps = can.keeps;
@@ -140,11 +153,12 @@ begin_lists now old disks = record {
   };
   goes_on = λ c core steady can. can;
   read = λ c core steady can stored. all_still old.core disks;
+  cached = λ c core steady can has. has;
 }
 
 -- it is given up
 pub cut_lists : (span : Span) (fault : ClusterFault) (es : Events) → ShowsLists span (Ok tt) es → ShowsLists span (Err fault) es
-cut_lists span fault es shows = record { lists = shows.lists; goes_on = λ c core steady can. tt; read = shows.read }
+cut_lists span fault es shows = record { lists = shows.lists; goes_on = λ c core steady can. tt; cached = λ c core steady can has. tt; read = shows.read }
 
 -- ---- what a job costs
 
@@ -199,12 +213,13 @@ pub job_cut_lists : (before now peer : ℕ) (old new : Running) (after : List (O
     → Works (own_header old.core.members.shape peer) (record { peer = peer; before = before; now = now; logs = old.logs; after = after; disks = disks; left = left }) (first_job peer old.core) result
     → NoneFalls disks left → ShowsLists (record { before = before; now = now; old = old; new = new; disks = disks; left = left }) (Err NoMemory) []
 job_cut_lists before now peer old new after disks left {E = E} result is was since works falls = record {
-  lists = λ c core steady can.
+  lists = λ c core steady can has.
       let w : Working = record { peer = peer; before = before; now = now; logs = old.logs; after = after; disks = disks; left = left } in
       let call = call_peers c w (steady (was_going c old core was)) (is_peer peer c old.core core is) can result (works_as peer w result c old.core core works) in
       call_lists c before now peer (stands_of disks) (stands_of left) since can.keeps call (record { before = before; now = now; old = old; new = new; disks = disks; left = left }) refl refl refl refl;
   goes_on = λ c core steady can. tt;
   read = λ c core steady can stored. all_none old.core disks left falls;
+  cached = λ c core steady can has. tt;
 }
 
 -- the job was done, and its report came, unless memory ran out or it was refused
@@ -212,11 +227,14 @@ pub job_lists : (before now peer : ℕ) (old new : Running) (after : List (Optio
     → is_answer old.core peer done ≡ true → Since (stands_of disks)
     → Works {E = E} (own_header old.core.members.shape peer) (record { peer = peer; before = before; now = now; logs = old.logs; after = after; disks = disks; left = left }) (first_job peer old.core) (Ok done)
     → (IsHeadedAt (own_header old.core.members.shape peer) before old.logs disks peer → StaysHeadedAt (own_header old.core.members.shape peer) before now disks after left peer)
-    → new.logs ≡ after → Does (done_of r (event.Report peer done, now)) old new r → TellsBytes done → NoneFalls disks left
-    → PaysFor peer done old.core old.logs disks left
+    → new.logs ≡ after → Does (done_of r (event.Report peer done, now)) old new r → TellsBytes done
+    → (is_own (first_job peer old.core) ≡ true → (list : Numbered) (waiting : Option Entry) → ((keeping : Keeping) → log_at old.logs peer ≡ Some keeping → IsKept keeping ((disk_at (stands_of disks) peer).seen keeping.log.side) list waiting)
+    → ((number : ℕ) → first_job peer old.core ≡ Some (job.Read number) → AreBlocks old.cache (home peer old.core) list) → TellsOf done (Some list))
+    → KeepsRead (home peer old.core) (front_of (home peer old.core) old.core) done old.cache new.cache
+    → NoneFalls disks left → PaysFor peer done old.core old.logs disks left
     → ShowsLists (record { before = before; now = now; old = old; new = new; disks = disks; left = left }) r (done_of r (event.Report peer done, now))
-job_lists before now peer old new after disks left E done r is was answer since works heads kept does bytes falls pays = record {
-  lists = λ c core steady can.
+job_lists before now peer old new after disks left E done r is was answer since works heads kept does bytes tells reads falls pays = record {
+  lists = λ c core steady can has.
       let steady_now = first_steady c e now (was_going c old core was) r steady in
       let call = called c core steady_now can in
       record {
@@ -228,10 +246,11 @@ job_lists before now peer old new after disks left E done r is was answer since 
             (λ goes. report_peers_fine c w steady_now (low c core) can done now E (works_in c core) (answers c core) (was_going c old core was) goes (heads_in c core))
             (λ grows. call-keeps whole_machine c (step_whole e now c) before now peer (stands_of disks) (stands_of left) (λ image. counts c peer ≡ true → GivesFine whole_machine c peer image) (λ k differs. grows k) call
             (λ counted image stands. grown_fine c (step_whole e now c) peer image (grows peer) (call.standing image stands ((grows peer).counted counted))) can.keeps));
-        told = told_by c e now r (peers_told c w steady_now (low c core) can done now E (works_in c core) (answers c core), bytes);
+        told = told_by c e now r (told_in c core steady_now can has, bytes);
       };
   goes_on = λ c core steady can. go r does c core steady can;
   read = λ c core steady can stored. read_then c core (first_steady c e now (was_going c old core was) r steady) can (ran_out r) stored;
+  cached = λ c core steady can has. on r does c core steady can has;
 }
   where
     e : Event
@@ -262,6 +281,26 @@ job_lists before now peer old new after disks left E done r is was answer since 
     called : (c : Whole) → c.core ≡ old.core → IsSteady c → KeepsPeers c old.logs disks before → EachImageOfOne before now peer (stands_of disks) (stands_of left) (λ image. counts c peer ≡ true → GivesFine whole_machine c peer image)
     called c core steady can = call_peers c w steady (low c core) can (Ok done) (works_in c core)
 
+    -- a peer that reads has the blocks that are cached
+    blocks_in : (c : Whole) → c.core ≡ old.core → IsSteady c → AreCached c old.cache → (number : ℕ) → first_job peer old.core ≡ Some (job.Read number) → AreBlocks old.cache (home peer old.core) (sealed_front c peer)
+    blocks_in c core steady has number first =
+        subst (λ x. AreBlocks old.cache (home peer x) (sealed_front c peer)) core
+        (cached_blocks c old.cache peer (low c core) (steady.reads peer number (low c core) (ap (first_job peer) core ∙ first)) has)
+
+    told_in : (c : Whole) → c.core ≡ old.core → IsSteady c → KeepsPeers c old.logs disks before → AreCached c old.cache → TellsOf done (Some (sealed_front c peer))
+    told_in c core steady can has = peers_told c w steady (low c core) can done now E (works_in c core) (answers c core)
+        (λ own each. tells (ap is_own (ap (first_job peer) (sym core)) ∙ own) (sealed_front c peer) (appended_of peer c.core) each (blocks_in c core steady has))
+
+    on : (r : Result ⊤ ClusterFault) → Does (done_of r (e, now)) old new r → (c : Whole) → c.core ≡ old.core → AreSteady c (done_of r (e, now)) → KeepsPeers c old.logs disks before → AreCached c old.cache
+        → OnOk r (AreCached (runs whole_machine c (done_of r (e, now))) new.cache)
+    on (Err fault) does c core steady can has = tt
+    on (Ok x) does c core steady can has =
+        let going : (step e now c.core).ended ≡ None = ap (λ x. (step e now x).ended) core ∙ step_going e now old new does in
+        let both = steady.0 (was_going c old core was) in
+        cached_on c (step_whole e now c) new.cache (shape_at c.core e now) (both.1.on going).effect
+        (cached_read c peer done old.cache new.cache (answers c core) (λ number first. both.0.reads peer number (low c core) first) (told_in c core both.0 can has)
+        (subst (λ x. KeepsRead (home peer x) (front_of (home peer x) x) done old.cache new.cache) (sym core) reads) has)
+
     go : (r : Result ⊤ ClusterFault) → Does (done_of r (e, now)) old new r → (c : Whole) → c.core ≡ old.core → AreSteady c (done_of r (e, now)) → KeepsPeers c old.logs disks before
         → OnOk r (KeepsPeers (runs whole_machine c (done_of r (e, now))) new.logs left now)
     go (Err fault) does c core steady can = tt
@@ -278,15 +317,18 @@ pub lists_behind : (before mid now : ℕ) (old here new : Running) (disks betwee
     → ShowsLists (record { before = mid; now = now; old = here; new = new; disks = between; left = left }) r fs
     → ShowsLists (record { before = before; now = now; old = old; new = new; disks = disks; left = left }) r (es ++ fs)
 lists_behind before mid now old here new disks between left r es fs does rise on first second = record {
-  lists = λ c core steady can.
-      lists_then c es fs before mid now old here new disks between left (going c core) rise on (first.lists c core (front c core steady) can)
-      (second.lists (runs whole_machine c es) (core_then c core) (steady_back c es fs steady) (first.goes_on c core (front c core steady) can));
+  lists = λ c core steady can has.
+      lists_then c es fs before mid now old here new disks between left (going c core) rise on (first.lists c core (front c core steady) can has)
+      (second.lists (runs whole_machine c es) (core_then c core) (steady_back c es fs steady) (first.goes_on c core (front c core steady) can) (first.cached c core (front c core steady) can has));
   goes_on = λ c core steady can.
       subst (λ s. OnOk r (KeepsPeers s new.logs left now)) (sym (runs_append c es fs))
       (second.goes_on (runs whole_machine c es) (core_then c core) (steady_back c es fs steady) (first.goes_on c core (front c core steady) can));
   read = λ c core steady can stored.
       all_then old.core here.core es fs disks between left (does.core refl) (first.read c core (front c core steady) can (stored_front c es fs stored))
       (second.read (runs whole_machine c es) (core_then c core) (steady_back c es fs steady) (first.goes_on c core (front c core steady) can) (stored_back c es fs stored));
+  cached = λ c core steady can has.
+      subst (λ s. OnOk r (AreCached s new.cache)) (sym (runs_append c es fs))
+      (second.cached (runs whole_machine c es) (core_then c core) (steady_back c es fs steady) (first.goes_on c core (front c core steady) can) (first.cached c core (front c core steady) can has));
 }
   where
     core_then : (c : Whole) → c.core ≡ old.core → (runs whole_machine c es).core ≡ here.core

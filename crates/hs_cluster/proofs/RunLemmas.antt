@@ -4,8 +4,10 @@ use Rattle.std.proofs.lemmas.Bool.{cases_lt, false≢true, ne_eqb}
 use Rattle.std.proofs.lemmas.List.{get_or_past}
 use Rattle.std.proofs.lemmas.List.Sums.{sum_by-cons}
 use Rattle.std.specs.List.{AllPairs}
-use Rattle.std.specs.Prelude.{◌==◌, ⊤, Contains, OnOk, Result, Ok, Err, cond, count_by, if◌then◌else◌, slice_index_or}
+use Rattle.std.specs.Prelude.{◌==◌, ⊤, Contains, OnOk, Result, Ok, Err, cond, count_by, if◌then◌else◌, slice_index_or, Option}
 use Rattle.hs_cluster.proofs.CountLemmas.{all_then, counted_before, counted_then, failures_append, rose_none, rose_then}
+use Rattle.hs_cache.specs.Cached.{Cached, pairs_of}
+use Rattle.hs_cluster.proofs.CachedLemmas.{empty_cached, none_cached}
 use Rattle.hs_cluster.proofs.GoingOnLemmas.{going_before}
 use Rattle.hs_cluster.proofs.HeadLemmas.{header_wait, heads_behind, heads_next}
 use Rattle.hs_cluster.proofs.OpenedLemmas.{opens_so}
@@ -15,6 +17,7 @@ use Rattle.hs_cluster.proofs.RoomLemmas.{rooms_then}
 use Rattle.hs_cluster.proofs.StretchLemmas.{lists_then, rises_to, runs_append, runs_core, steps_shape, stored_back, stored_front, told_then}
 use Rattle.hs_cluster.proofs.TurnedLemmas.{not_ended}
 use Rattle.hs_cluster.specs.Calls.{ran_out}
+use Rattle.hs_cluster.specs.Cached.{AreCached}
 use Rattle.hs_cluster.specs.Calm.{GoesCalmly}
 use Rattle.hs_cluster.specs.Counts.{AreAllCounted}
 use Rattle.hs_cluster.specs.declared.fault.ClusterFault.{ClusterFault}
@@ -83,13 +86,13 @@ runs_opened tells set s cluster done o = record {
   lists = o.lists;
   told = o.told;
   read = o.read;
-  copies = λ told called c opens steady. (o.copies told).lists c (opens.core ∙ sym o.begins) steady (o.peers told called c opens);
+  copies = λ told called c opens steady. (o.copies told).lists c (opens.core ∙ sym o.begins) steady (o.peers told called c opens) (none_cached c o.begun.cache o.uncached);
   reads = λ told called c opens steady stored.
       subst (λ x. AreAllCounted x o.events o.disks s.new) o.begins ((o.copies told).read c (opens.core ∙ sym o.begins) steady (o.peers told called c opens) stored);
 }
 
 pub can_opened : (tells : Type 0) (set : Setting) (s : Taking) (cluster : Running) (done : Result ⊤ ClusterFault) (o : Opens tells set s cluster done) → OnOk done (CanRunOn tells set (opening_span s o.begun cluster) o.found o.events)
-can_opened tells set s cluster (Ok tt) o = record { untold = untold_opened tells set s cluster (Ok tt) o refl; calm = o.calm; holds = λ one told peer last. (o.past one told peer last).holds; owns = λ told peer own. heads_behind (own_header set.shape peer) s.before s.now s.old s.new cluster.logs peer (o.headed told peer own); goes = λ one told sound. o.goes_on one told sound; reads = λ one told. o.reads_on one told; keeps = λ told called c opens steady. (o.copies told).goes_on c (opens.core ∙ sym o.begins) steady (o.peers told called c opens) }
+can_opened tells set s cluster (Ok tt) o = record { untold = untold_opened tells set s cluster (Ok tt) o refl; calm = o.calm; holds = λ one told peer last. (o.past one told peer last).holds; owns = λ told peer own. heads_behind (own_header set.shape peer) s.before s.now s.old s.new cluster.logs peer (o.headed told peer own); goes = λ one told sound. o.goes_on one told sound; reads = λ one told. o.reads_on one told; cached = λ one told. o.cached one told; keeps = λ told called c opens steady. (o.copies told).goes_on c (opens.core ∙ sym o.begins) steady (o.peers told called c opens); keeps_cached = λ told called c opens steady. (o.copies told).cached c (opens.core ∙ sym o.begins) steady (o.peers told called c opens) (none_cached c o.begun.cache o.uncached) }
 can_opened tells set s cluster (Err fault) o = tt
 
 -- ---- the events of a line
@@ -123,7 +126,7 @@ module _ (tells : Type 0) (set : Setting) (found : Found) (before mid now : ℕ)
 
   lists : set.shape.copies ≡ 1 → tells → LeaveOneList before disks → (first_core set found).ended ≡ None → LeavesLists c (es ++ fs) (record { before = before; now = now; old = begun; new = new; disks = disks; left = left })
   lists alone told sound first =
-      lists_then c es fs before mid now begun here new disks between left goes rise on (so_far.lists alone told sound first) (shows.lists told behind behind_core (can.goes alone told sound))
+      lists_then c es fs before mid now begun here new disks between left goes rise on (so_far.lists alone told sound first) (shows.lists told behind behind_core (can.goes alone told sound) (can.cached alone told))
 
   past : set.shape.copies ≡ 1 → tells → (peer : ℕ) → (disk_at (stands_of disks) peer).last ≤ before → LeavesPast before now disks left new.logs r peer
   past one told peer last = leaves_then before mid now disks between left new.logs r peer (so_far.past one told peer last) (shows.past told disks (can.calm one) peer (can.holds one told peer last))
@@ -147,7 +150,7 @@ module _ (tells : Type 0) (set : Setting) (found : Found) (before mid now : ℕ)
     x_lists : LeavesLists x (es ++ fs) (record { before = found.opened; now = now; old = begun; new = new; disks = so_far.disks; left = left })
     x_lists =
         lists_then x es fs found.opened mid now begun here new so_far.disks between left x_goes rises on (so_far.copies told called x opens x_front)
-        ((shows.copies told).lists (runs whole_machine x es) x_core (steady_back x es fs steady) (can.keeps told called x opens x_front))
+        ((shows.copies told).lists (runs whole_machine x es) x_core (steady_back x es fs steady) (can.keeps told called x opens x_front) (can.keeps_cached told called x opens x_front))
 
     x_keeps : OnOk r (KeepsPeers (runs whole_machine x (es ++ fs)) new.logs left now)
     x_keeps =
@@ -158,6 +161,11 @@ module _ (tells : Type 0) (set : Setting) (found : Found) (before mid now : ℕ)
     x_reads stored =
         all_then (first_core set found) here.core es fs so_far.disks between left core (so_far.reads told called x opens x_front (stored_front x es fs stored))
         ((shows.copies told).read (runs whole_machine x es) x_core (steady_back x es fs steady) (can.keeps told called x opens x_front) (stored_back x es fs stored))
+
+    x_cached : OnOk r (AreCached (runs whole_machine x (es ++ fs)) new.cache)
+    x_cached =
+        subst (λ s. OnOk r (AreCached s new.cache)) (sym (runs_append x es fs))
+        ((shows.copies told).cached (runs whole_machine x es) x_core (steady_back x es fs steady) (can.keeps told called x opens x_front) (can.keeps_cached told called x opens x_front))
 
   pub untold_more : ran_out r ≡ false → StandUntold set found (es ++ fs) disks left
   untold_more out = λ disk good none.
@@ -184,7 +192,7 @@ module _ (tells : Type 0) (set : Setting) (found : Found) (before mid now : ℕ)
     headed = λ told peer own. (heads told peer own).disk;
     rooms = rooms_then (first_core set found) es fs so_far.rooms (subst (λ x. HaveRecordRoom x fs) core rooms);
     lists = lists;
-    told = λ one told first. told_then c es fs (so_far.told one told first) (shows.told told behind behind_core (can.reads one told));
+    told = λ one told first. told_then c es fs (so_far.told one told first) (shows.told told behind behind_core (can.reads one told) (can.cached one told));
     read = λ one told first stored.
         all_then (first_core set found) here.core es fs so_far.disks between left core (so_far.read one told first (stored_front c es fs stored))
         (shows.read told behind behind_core (can.reads one told) (stored_back c es fs stored));
@@ -195,23 +203,27 @@ module _ (tells : Type 0) (set : Setting) (found : Found) (before mid now : ℕ)
   pub can_more : OnOk r (CanRunOn tells set (record { before = before; now = now; old = begun; new = new; disks = disks; left = left }) found (es ++ fs))
   can_more =
       by r (λ one. shows.calm disks (can.calm one)) (λ one told peer last. (past one told peer last).holds) heads (λ one told sound. shows.goes_on told behind behind_core (can.goes one told sound))
-      (λ one told. shows.reads_on told behind behind_core (can.reads one told)) x_keeps untold_more
+      (λ one told. shows.reads_on told behind behind_core (can.reads one told)) x_keeps (λ one told. shows.cached told behind behind_core (can.reads one told) (can.cached one told)) x_cached untold_more
     where
       by : (r : Result ⊤ ClusterFault) → (set.shape.copies ≡ 1 → OnOk r (GoesCalmly new.core disks left)) → (set.shape.copies ≡ 1 → tells → (peer : ℕ) → (disk_at (stands_of disks) peer).last ≤ before → OnOk r (HoldsLog now new.logs left peer))
           → (tells → (peer : ℕ) → IsOwnAt set.shape before disks peer → LeavesHeads (own_header set.shape peer) before now disks left new.logs r peer)
           → (set.shape.copies ≡ 1 → tells → LeaveOneList before disks → OnOk r (CanGoOn (runs whole_machine behind fs) new.logs left now)) → (set.shape.copies ≡ 1 → tells → OnOk r (CanRead (runs whole_machine behind fs) new.logs left))
           → (tells → ((peer : ℕ) → (seen_at disks peer).stands.last ≤ before) → (x : Whole) → OpensLists set found x → AreSteady x (es ++ fs) → OnOk r (KeepsPeers (runs whole_machine x (es ++ fs)) new.logs left now))
+          → (set.shape.copies ≡ 1 → tells → OnOk r (AreCached (runs whole_machine behind fs) new.cache))
+          → (tells → ((peer : ℕ) → (seen_at disks peer).stands.last ≤ before) → (x : Whole) → OpensLists set found x → AreSteady x (es ++ fs) → OnOk r (AreCached (runs whole_machine x (es ++ fs)) new.cache))
           → (ran_out r ≡ false → StandUntold set found (es ++ fs) disks left)
           → OnOk r (CanRunOn tells set (record { before = before; now = now; old = begun; new = new; disks = disks; left = left }) found (es ++ fs))
-      by (Err fault) calm holds own h g k u = tt
-      by (Ok tt) calm holds own h g k u = record {
+      by (Err fault) calm holds own h g k p q u = tt
+      by (Ok tt) calm holds own h g k p q u = record {
         untold = u refl;
         calm = calm;
         holds = holds;
         owns = λ told peer is. heads_behind (own_header set.shape peer) before now disks left new.logs peer (own told peer is);
         goes = λ one told sound. subst (λ s. CanGoOn s new.logs left now) (sym (runs_append c es fs)) (h one told sound);
         reads = λ one told. subst (λ s. CanRead s new.logs left) (sym (runs_append c es fs)) (g one told);
+        cached = λ one told. subst (λ s. AreCached s new.cache) (sym (runs_append c es fs)) (p one told);
         keeps = k;
+        keeps_cached = q;
       }
 
 -- ---- time alone
@@ -285,9 +297,52 @@ can_later tells set found before now later begun cluster disks left es ticks can
         keeps = later-keeps whole_machine (runs whole_machine (open_whole set found) es) now later (stands_of left) ticks so_far.keeps;
       };
   reads = can.reads;
+  cached = can.cached;
   keeps = λ told called x opens steady.
       let so_far = can.keeps told called x opens steady in
       record { listed = so_far.listed; keeps = later-keeps whole_machine (runs whole_machine x es) now later (stands_of left) ticks so_far.keeps; headed = so_far.headed };
+  keeps_cached = can.keeps_cached;
+}
+
+-- ---- another cache, in which nothing is kept
+
+lists_beside : (c : Whole) (es : Events) (before now : ℕ) (begun cluster other : Running) (disks left : List DiskSeen) → LeavesLists c es (record { before = before; now = now; old = begun; new = cluster; disks = disks; left = left })
+    → LeavesLists c es (record { before = before; now = now; old = begun; new = other; disks = disks; left = left })
+lists_beside c es before now begun cluster other disks left h = record { earlier = h.earlier; moments = h.moments; keeps = h.keeps; told = h.told }
+
+-- what was shown so far is so whatever the cluster is then
+pub runs_beside : (tells : Type 0) (set : Setting) (found : Found) (before now : ℕ) (begun cluster other : Running) (disks left : List DiskSeen) (es : Events)
+    → RunsOn tells set (record { before = before; now = now; old = begun; new = cluster; disks = disks; left = left }) found es
+    → RunsOn tells set (record { before = before; now = now; old = begun; new = other; disks = disks; left = left }) found es
+runs_beside tells set found before now begun cluster other disks left es so_far = record {
+  slots = so_far.slots;
+  disks = so_far.disks;
+  finds = so_far.finds;
+  own = so_far.own;
+  falls = so_far.falls;
+  counted = so_far.counted;
+  rooms = so_far.rooms;
+  still = so_far.still;
+  past = so_far.past;
+  headed = so_far.headed;
+  lists = λ one told sound first. lists_beside (open_whole set found) es before now begun cluster other disks left (so_far.lists one told sound first);
+  told = so_far.told;
+  read = so_far.read;
+  copies = λ told called x opens steady. lists_beside x es found.opened now begun cluster other so_far.disks left (so_far.copies told called x opens steady);
+}
+
+pub can_cache : (tells : Type 0) (set : Setting) (found : Found) (before now : ℕ) (begun cluster : Running) (cache : Option Cached) (disks left : List DiskSeen) (es : Events) → pairs_of cache ≡ []
+    → CanRunOn tells set (record { before = before; now = now; old = begun; new = cluster; disks = disks; left = left }) found es
+    → CanRunOn tells set (record { before = before; now = now; old = begun; new = record cluster { cache = cache }; disks = disks; left = left }) found es
+can_cache tells set found before now begun cluster cache disks left es none can = record {
+  calm = can.calm;
+  holds = can.holds;
+  owns = can.owns;
+  goes = can.goes;
+  reads = can.reads;
+  cached = λ one told. empty_cached (runs whole_machine (open_whole set found) es) cache none;
+  keeps = can.keeps;
+  keeps_cached = λ told called x opens steady. empty_cached (runs whole_machine x es) cache none;
 }
 
 -- ---- failed calls from entry on

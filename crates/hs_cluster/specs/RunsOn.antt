@@ -1,5 +1,6 @@
 -- What a run on disks shows, beside its events.
 use Rattle.std.specs.Prelude.{IsSome, List, None, Option, Some, length, true, ℕ, ◌<◌, ◌≡◌, ◌≤◌}
+use Rattle.hs_cluster.specs.Cached.{AreCached}
 use Rattle.hs_cluster.specs.Calm.{GoesCalmly}
 use Rattle.hs_cluster.specs.Counts.{AreAllCounted, AreCounted, NoneFalls}
 use Rattle.hs_cluster.specs.Disks.{DiskSeen, seen_at, stands_of}
@@ -73,5 +74,7 @@ pub record CanRunOn (tells : Type 0) (set : Setting) (span : Span) (found : Foun
   pub owns : tells → (peer : ℕ) → IsOwnAt set.shape span.before span.disks peer → IsHeadedAt (own_header set.shape peer) span.now span.new.logs span.left peer
   pub goes : set.shape.copies ≡ 1 → tells → LeaveOneList span.before span.disks → CanGoOn (runs whole_machine (open_whole set found) events) span.new.logs span.left span.now
   pub reads : set.shape.copies ≡ 1 → tells → CanRead (runs whole_machine (open_whole set found) events) span.new.logs span.left
+  pub cached : set.shape.copies ≡ 1 → tells → AreCached (runs whole_machine (open_whole set found) events) span.new.cache
   -- with any number of copies the logs have what such lists tell of them, and the disks begin them
   pub keeps : tells → ((peer : ℕ) → (seen_at span.disks peer).stands.last ≤ span.before) → (c : Whole) → OpensLists set found c → AreSteady c events → KeepsPeers (runs whole_machine c events) span.new.logs span.left span.now
+  pub keeps_cached : tells → ((peer : ℕ) → (seen_at span.disks peer).stands.last ≤ span.before) → (c : Whole) → OpensLists set found c → AreSteady c events → AreCached (runs whole_machine c events) span.new.cache

@@ -32,6 +32,7 @@ use Rattle.hs_peerlog.specs.Lists.{numbered_entry}
 use Rattle.hs_whole_copies.proofs.CopiedLemmas.{next_copied}
 use Rattle.hs_whole_copies.specs.Copying.{IsNextCopied}
 use Rattle.hs_whole_copies.specs.Whole.{IsShardInStep, IsWholeInStep}
+use Rattle.hs_steady.proofs.EffectLemmas.{good_effect}
 use Rattle.hs_steady.proofs.PeerLemmas.{appended_is, floor_bad, floor_held, log_good, next_is, reach_good}
 
 -- ---- the entry of a number
@@ -194,4 +195,5 @@ module _ (c : Whole) (machines : ℕ → Copies Entry) (w : IsWholeInStep c mach
   steady = record {
     within = floor_within;
     asks = λ q j low e. asks_next (home q c.core) q c (machines (home q c.core)) (its_shard q low) refl j e;
+    reads = λ q number low e. good_effect c q (machines (home q c.core)) (its_shard q low) (first_is_next (home q c.core) q c.core (machines (home q c.core)) (job.Read number) (its_shard q low).in_step refl e);
   }

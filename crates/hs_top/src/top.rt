@@ -35,11 +35,13 @@ use std::alloc::Global;
 use std::sync::Wait;
 use std::thread::Threads;
 
-/// Runs a script on a store. The calls before it are laws.
+/// Runs a script on a store, with a cache of at most so many blocks, or none. The calls before it are
+/// laws.
 fn run_script<A: Addresser, S: Source, K: Sink, D: Disk>(
     alloc: Global,
     shape: Shape,
     limits: Limits,
+    cached: u32,
     naming: &A,
     source: &mut S,
     sink: &mut K,
@@ -77,7 +79,9 @@ fn run_script<A: Addresser, S: Source, K: Sink, D: Disk>(
     a_run_with_room_is_not_full();
     a_calm_run_ends_well();
     each_rise_is_told();
-    run_script_on(alloc, shape, limits, naming, source, sink, disks, watch)
+    run_script_on(
+        alloc, shape, limits, cached, naming, source, sink, disks, watch,
+    )
 }
 
 /// Does what is asked for, which is served.
@@ -105,9 +109,12 @@ fn do_task<A: Addresser, S: Source, K: Sink, D: Disk + Drop>(
     ensures begun { result.status ≡ Status.Usage → ⊥ }
 {
     match task {
-        Task::Script { limits, .. } => {
+        Task::Script { limits, cache, .. } => {
+            let cached = cache.unwrap_or(0);
             let handed = disks.as_mut_slice();
-            run_script(alloc, shape, *limits, naming, source, sink, handed, watch)
+            run_script(
+                alloc, shape, *limits, cached, naming, source, sink, handed, watch,
+            )
         }
         Task::Audit => {
             let handed = disks.as_mut_slice();
