@@ -11,7 +11,7 @@ use Rattle.hs_cluster.specs.Cached.{AreBlocks, AreCached, HasEffect, KeepsRead, 
 use Rattle.hs_cluster.specs.Kept.{sealed_front}
 use Rattle.hs_core_words.specs.declared.event.Event.{Event}
 use Rattle.hs_core_words.specs.declared.event.Event.TheVariants as event
-use Rattle.hs_core_words.specs.Looking.{first_job, front_of, home, lead_of}
+use Rattle.hs_core_words.specs.Looking.{first_job, front_of, home}
 use Rattle.hs_core_words.specs.State.{Core}
 use Rattle.hs_core_words.specs.Step.{step}
 use Rattle.hs_desk.specs.Answers.{answers}
@@ -19,7 +19,6 @@ use Rattle.hs_desk.specs.declared.done.Done.{Done}
 use Rattle.hs_desk.specs.declared.done.Done.TheVariants as done
 use Rattle.hs_desk.specs.declared.job.Job.{Job}
 use Rattle.hs_desk.specs.declared.job.Job.TheVariants as job
-use Rattle.hs_entry.specs.declared.entry.Entry.{Entry}
 use Rattle.hs_entry.specs.declared.entry.Entry.TheVariants as kind
 use Rattle.hs_events.specs.Asked.{report_in}
 use Rattle.hs_events.specs.Course.{is_refused}
