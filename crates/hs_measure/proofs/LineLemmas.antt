@@ -5,9 +5,10 @@ use Rattle.std.specs.Prelude.{⊤, OnOk, Result, Ok, Err, is_ok}
 use Rattle.hs_standing.proofs.AddressedLemmas.{AllAddressed, lines_addressed}
 use Rattle.hs_cluster.specs.Cached.{AreCached}
 use Rattle.hs_cluster.specs.Calls.{RunsLine, outcome_by, ran_out}
+use Rattle.hs_cluster.specs.Counts.{AreAllCounted}
 use Rattle.hs_cluster.specs.declared.fault.ClusterFault.{ClusterFault}
 use Rattle.hs_cluster.specs.Disks.{DiskSeen}
-use Rattle.hs_cluster.specs.Kept.{AreTold, Shows}
+use Rattle.hs_cluster.specs.Kept.{AreStored, AreTold, Shows}
 use Rattle.hs_cluster.specs.PeerLogs.{KeepsPeers}
 use Rattle.hs_cluster.specs.Rooms.{HaveRecordRoom}
 use Rattle.hs_cluster.specs.Running.{Running}
@@ -119,6 +120,14 @@ module _ (lines : LineLaws) (tells : Type 0) (told : tells) (start : Start) (lin
   told_by : (start.set.shape.copies ≡ 1) ⊎ (start.set.shape.copies ≢ 1) → AreTold its.whole r.events
   told_by (inl one) = r.kept.told told its.whole its.same (its.logs.alone one) its.cached
   told_by (inr more) = ((r.kept.copies told).lists its.whole its.same steady (later_peers (its.logs.several more)) its.cached).told
+
+  -- failed calls that are reported are at the counts, those of reads too, where what is to be read stands in the lists
+  pub line_costs : AreStored its.whole r.events → AreAllCounted old.core r.events disks left
+  line_costs stored = by (cases_eq start.set.shape.copies 1)
+    where
+      by : (start.set.shape.copies ≡ 1) ⊎ (start.set.shape.copies ≢ 1) → AreAllCounted old.core r.events disks left
+      by (inl one) = r.kept.read told its.whole its.same (its.logs.alone one) stored
+      by (inr more) = (r.kept.copies told).read its.whole its.same steady (later_peers (its.logs.several more)) stored
 
   logs_behind : result ≡ Ok tt → HasLogs start.set.shape.copies (runs whole_machine its.whole r.events) new.logs left now
   logs_behind ok = record {

@@ -13,8 +13,9 @@ use Rattle.hs_standing.proofs.FirstRoomLemmas.{first_room}
 use Rattle.hs_cluster.proofs.CachedLemmas.{none_cached}
 use Rattle.hs_cluster.specs.Cached.{AreCached}
 use Rattle.hs_cluster.specs.Calls.{ran_out}
+use Rattle.hs_cluster.specs.Counts.{AreAllCounted}
 use Rattle.hs_cluster.specs.declared.fault.ClusterFault.{ClusterFault}
-use Rattle.hs_cluster.specs.Kept.{AreTold}
+use Rattle.hs_cluster.specs.Kept.{AreStored, AreTold}
 use Rattle.hs_cluster.specs.Opens.{Opens, OpensLists}
 use Rattle.hs_cluster.specs.PeerLogs.{KeepsPeers}
 use Rattle.hs_cluster.specs.Running.{Running}
@@ -219,6 +220,14 @@ module _ (opening : OpeningLaws) (tells : Type 0) (told : tells) (set : Setting)
   told_by : (set.shape.copies ≡ 1) ⊎ (set.shape.copies ≢ 1) → AreTold (open_whole set o.found) o.events
   told_by (inl one) = o.told one told first_going
   told_by (inr more) = ((o.copies told).lists (open_whole set found) (sym o.begins) steady (has more) uncached).told
+
+  -- failed calls that the turns report are at the counts, those of reads too, where what is to be read stands in the lists
+  pub opening_costs : AreStored (open_whole set o.found) o.events → AreAllCounted (first_core set o.found) o.events o.disks span.new
+  opening_costs stored = by (cases_eq set.shape.copies 1)
+    where
+      by : (set.shape.copies ≡ 1) ⊎ (set.shape.copies ≢ 1) → AreAllCounted (first_core set o.found) o.events o.disks span.new
+      by (inl one) = o.read one told first_going stored
+      by (inr more) = subst (λ (x : Core). AreAllCounted x o.events o.disks span.new) o.begins ((o.copies told).read (open_whole set found) (sym o.begins) steady (has more) stored)
 
   logs_behind : done ≡ Ok tt → HasLogs set.shape.copies (runs whole_machine (open_whole set o.found) o.events) cluster.logs span.new span.now
   logs_behind ok = record {

@@ -63,8 +63,6 @@ pub fn each_line_has_room<D: Disk>()
         → entries_most start.commands start.set.shape line + more ≤ start.set.limits.ops →
         EndsWell start.set.shape (record {
           asked = Some command;
-          core = old.core;
-          events = runs.events;
           old = disks;
           new = left;
         }) result }

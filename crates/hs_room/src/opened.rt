@@ -58,8 +58,6 @@ pub fn a_cluster_opens_with_room<D: Disk>()
         → entries_most commands set.shape 0 ≤ set.limits.ops →
         EndsWell set.shape (record {
           asked = None;
-          core = first_core set opens.found;
-          events = opens.events;
           old = span.old;
           new = span.new;
         }) done }
