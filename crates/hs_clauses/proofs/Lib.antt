@@ -14,6 +14,7 @@ pub mod CopiesEarlyLemmas
 pub mod CopiesEndedLemmas
 pub mod CopiesShownLemmas
 pub mod CopiesStopLemmas
+pub mod CostLemmas
 pub mod CountedLemmas
 pub mod CourseLemmas
 pub mod EndedLemmas
