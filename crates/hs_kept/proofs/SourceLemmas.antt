@@ -8,7 +8,6 @@ use Rattle.hs_asking.proofs.RootLemmas.{root_stays}
 use Rattle.hs_asking.specs.Seats.{IsSane}
 use Rattle.hs_asking.specs.Shown.{Shown}
 use Rattle.hs_asking.specs.Staying.{NeverDrops}
-use Rattle.hs_clauses.proofs.TakenLemmas.{lists_are as one_each}
 use Rattle.hs_copy.specs.Copying.{HasCopied, IsStopped}
 use Rattle.hs_copy.specs.Listing.{HasListed, KeepsItsOwn}
 use Rattle.hs_copy.specs.declared.fault.CopyFault.{CopyFault}
@@ -31,12 +30,12 @@ use Rattle.hs_standing.specs.Held.{GivesAddresses}
 use Rattle.hs_tree.specs.Fetching.{IsFetching, IsReading}
 use Rattle.hs_tree.specs.Storing.{our_session}
 use Rattle.hs_kept.proofs.SaidLemmas.{each_line}
-use Rattle.hs_kept.proofs.CopiedLemmas.{sound_same}
+use Rattle.hs_kept.proofs.CopiedLemmas.{alike_same, sound_same}
 use Rattle.hs_kept.proofs.FilesLemmas.{asks_plainly}
 use Rattle.hs_kept.proofs.LawLemmas.{Laws}
-use Rattle.hs_kept.proofs.SurvivesLemmas.{never_all}
+use Rattle.hs_kept.proofs.SurvivesLemmas.{all_chosen, never_all}
 use Rattle.hs_kept.specs.Copied.{Asked, FirstStays, Unasked}
-use Rattle.hs_kept.specs.Kept.{AsksPlainly, IsSoundStart, disk_lists, set_of, store_before, store_behind}
+use Rattle.hs_kept.specs.Kept.{AsksPlainly, IsSoundStart, StartsAlike, disk_lists, set_of, store_before, store_behind}
 use Rattle.hs_kept.specs.Survives.{NoneDrops}
 
 -- ---- what is asked for drops nothing
@@ -67,19 +66,13 @@ disks_spelled : Laws → (disks : List Standing) → HoldBytes disks → AllByRe
 disks_spelled laws [] bytes = tt
 disks_spelled laws (disk ∷ disks) bytes = (laws.spelled disk.seen bytes.0, disks_spelled laws disks bytes.1)
 
-module _ (laws : Laws) (tells : Type 0) (name : List ℕ → Address) (shape : Shape) (r : Ran) (told : tells) (one : shape.copies ≡ 1) (names : GivesAddresses name) (sound : IsSoundStart name shape r) where
+module _ (laws : Laws) (tells : Type 0) (name : List ℕ → Address) (shape : Shape) (r : Ran) (told : tells) (alike : StartsAlike shape r) (names : GivesAddresses name) (sound : IsSoundStart name shape r) where
   module _ (e : AtEntry) (s t : Shown (IsTold tells e)) (asks : AsksAsClient tells name shape r e s t) where
     plainly : AsksPlainly tells name shape r t.commands
-    plainly = asks_plainly laws tells name shape r told one names sound e s t asks
-
-    many : length (disk_lists r) ≡ shape.shards
-    many = length-map r.old.disks (λ (disk : Standing). list_in disk.seen) ∙ asks.machine.count ∙ ap (λ n. shape.shards * n) one ∙ times_one shape.shards
-      where
-        times_one : (k : ℕ) → k * 1 ≡ k
-        times_one k = omega arith
+    plainly = asks_plainly laws tells name shape r told alike names sound e s t asks
 
     spelled : AllByRecursion AreSpelled (taken_lists shape (disk_lists r))
-    spelled = subst (λ (lists : List Numbered). AllByRecursion AreSpelled lists) (sym (one_each shape (disk_lists r) one many)) (disks_spelled laws r.old.disks sound.bytes)
+    spelled = all_chosen AreSpelled tt shape.shards shape.copies (or_blank (disk_lists r)) (disks_spelled laws r.old.disks sound.bytes)
 
     sane : IsSane (store_before name shape r)
     sane = record {
@@ -104,13 +97,16 @@ module _ (laws : Laws) (tells : Type 0) (name : List ℕ → Address) (shape : S
 
 -- ---- the command
 
-module _ (laws : Laws) (tells : Type 0) (name : List ℕ → Address) (shapes : Shapes) (r : Ran) (told : tells) (one_copy : shapes.first.copies ≡ 1) (names : GivesAddresses name) (sound : IsSoundStart name shapes.first (in_first shapes.first r.ending r)) (key : List ℕ) where
+module _ (laws : Laws) (tells : Type 0) (name : List ℕ → Address) (shapes : Shapes) (r : Ran) (told : tells) (alike : StartsAlike shapes.first (in_first shapes.first r.ending r)) (names : GivesAddresses name) (sound : IsSoundStart name shapes.first (in_first shapes.first r.ending r)) (key : List ℕ) where
   module _ (one : Ran) (in_it : IsInFirst shapes.first r one) (e : AtEntry) (s t : Shown (IsTold tells e)) (asks : AsksAsClient tells name shapes.first one e s t) where
+    one_alike : StartsAlike shapes.first one
+    one_alike = alike_same shapes.first (in_first shapes.first r.ending r) one in_it.old alike
+
     sound_one : IsSoundStart name shapes.first one
     sound_one = sound_same name shapes.first (in_first shapes.first r.ending r) one in_it.old sound
 
     stays_by : AllByRecursion IsNoDrop t.asked → FirstStays tells name shapes r
-    stays_by drops = Asked one in_it t.commands (asks_plainly laws tells name shapes.first one told one_copy names sound_one e s t asks) (keeps_its_own laws tells name shapes.first one told one_copy names sound_one e s t asks drops)
+    stays_by drops = Asked one in_it t.commands (asks_plainly laws tells name shapes.first one told one_alike names sound_one e s t asks) (keeps_its_own laws tells name shapes.first one told one_alike names sound_one e s t asks drops)
 
     stays_from : (ops : List Op) → t.asked ≡ s.asked ++ ops → AllByRecursion IsNoDrop ops → FirstStays tells name shapes r
     stays_from ops asked drops = stays_by (subst (λ (xs : List Op). AllByRecursion IsNoDrop xs) (ap (λ (xs : List Op). xs ++ ops) (sym asks.first) ∙ sym asked) drops)

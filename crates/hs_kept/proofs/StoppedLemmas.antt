@@ -11,10 +11,9 @@ use Rattle.hs_asking.proofs.SeatLemmas.{seat_held, seat_kept}
 use Rattle.hs_asking.proofs.StayLemmas.{kept_whole}
 use Rattle.hs_asking.specs.Seats.{HasSeat}
 use Rattle.hs_asking.specs.Shown.{Began, Shown, store_now}
-use Rattle.hs_clauses.proofs.AskedLemmas.{told_run as as_told}
 use Rattle.hs_clauses.proofs.EndedLemmas.{journal_notes}
 use Rattle.hs_clauses.proofs.NoteLemmas.{IsNote}
-use Rattle.hs_clauses.specs.Shown.{IsShown, IsShownRun, ShownAs}
+use Rattle.hs_clauses.specs.Shown.{HasItsDisks, IsShownRun, IsToldAs, IsToldRun}
 use Rattle.hs_desk.specs.declared.fault.CoreFault.{CoreFault}
 use Rattle.hs_events.specs.Found.{first_core}
 use Rattle.hs_events.specs.Taken.{or_blank, taken_lists}
@@ -64,11 +63,11 @@ use Rattle.hs_kept.proofs.LineLemmas.{HasLine, has_left}
 use Rattle.hs_kept.proofs.MomentLemmas.{MomentLaws, asked_then}
 use Rattle.hs_kept.proofs.QuietLemmas.{IsQuiet}
 use Rattle.hs_kept.proofs.SaidLemmas.{each_line}
-use Rattle.hs_kept.proofs.RunLemmas.{sound_at, store_is, told_run}
+use Rattle.hs_kept.proofs.RunLemmas.{its_disks, on_disks, shown_run, shown_story, sound_at, store_is, told_never, told_run, told_story}
 use Rattle.hs_kept.proofs.WholeKeyLemmas.{IsEarlier, IsKeptWhole, IsPoised, quiet_after, quiet_stop, whole_after, whole_stop}
-use Rattle.hs_kept.specs.Kept.{AsksPlainly, IsSoundStart, disk_lists, set_of, store_before, store_behind}
+use Rattle.hs_kept.specs.Kept.{AsksPlainly, IsSoundStart, StartsAlike, disk_lists, set_of, store_before, store_behind}
 use Rattle.hs_kept.specs.Pending.{ArePendingAs, IsPendingAs}
-use Rattle.hs_kept.specs.Stopped.{EndsWhole, GoesOn, KeepsKeyWhole, KeepsWhole}
+use Rattle.hs_kept.specs.Stopped.{EndsWhole, GoesOn, KeepsKeyWhole, KeepsWhole, StopsAsAsked}
 
 -- the clause of stops
 abbrev pub StopsSo : Type 0
@@ -99,7 +98,7 @@ holds_top name b s n place h = go h.fore h.fronts h.seat
     go [] zipped seat = absurd zipped
     go (e ∷ fore) zipped seat = record { next = h.next; es = e ∷ fore ++ (h.middle ++ h.back); seat = seat; e = e; member = inl refl; matches = zipped.0 }
 
-module _ (laws : Laws) (moments : MomentLaws) (stops : StopsSo) (tells : Type 0) (name : List ℕ → Address) (shape : Shape) (r : Ran) (told : tells) (one : shape.copies ≡ 1) (names : GivesAddresses name) (sound : IsSoundStart name shape r) where
+module _ (laws : Laws) (moments : MomentLaws) (stops : StopsSo) (tells : Type 0) (name : List ℕ → Address) (shape : Shape) (r : Ran) (told : tells) (alike : StartsAlike shape r) (names : GivesAddresses name) (sound : IsSoundStart name shape r) where
   abbrev was : Store
   was = store_before name shape r
 
@@ -114,13 +113,16 @@ module _ (laws : Laws) (moments : MomentLaws) (stops : StopsSo) (tells : Type 0)
     S = client_script name shape now.commands
 
     abbrev plainly : AsksPlainly tells name shape r now.commands
-    plainly = asks_plainly laws tells name shape r told one names sound e start now asks
+    plainly = asks_plainly laws tells name shape r told alike names sound e start now asks
 
     abbrev ran : Ran
     ran = beneath r asks.until (status_by now.ended)
 
-    abbrev told_ran : IsShownRun S ran
-    told_ran = told_run tells S ran told one names asks.machine
+    abbrev told_ran : IsToldRun S ran
+    told_ran = told_run tells S ran told alike names asks.machine
+
+    abbrev on : HasItsDisks S ran
+    on = its_disks tells S ran told alike names asks.machine
 
     valid_behind : IsValid (store_behind name shape now.commands r)
     valid_behind =
@@ -129,34 +131,34 @@ module _ (laws : Laws) (moments : MomentLaws) (stops : StopsSo) (tells : Type 0)
 
     -- ---- where its core goes on
 
-    shown_of : (story : Story) → asks.machine.how ≡ Some story → IsShown S ran story
-    shown_of story is = subst (λ (how : Option Story). ShownAs S ran how) is told_ran.shown
+    told_of : (story : Story) → asks.machine.how ≡ Some story → IsToldAs S ran story
+    told_of story is = told_story tells S ran told alike names asks.machine story is
 
     entry_is : (story : Story) → asks.machine.how ≡ Some story → (first_core S.set story.found).ended ≡ None → entry_store S ran ≡ store_before name shape r
     entry_is story is going =
-        store_is S ran story told_ran.on (shown_of story is) going e.disks asks.disks.stands
-        ∙ ap (λ (logs : List (Option Numbered)). opened (set_of name shape) (or_blank logs)) (lists_are laws tells name shape r told one names sound e asks.set asks.disks)
+        store_is S ran story on (told_of story is) alike going e.disks asks.disks.stands
+        ∙ ap (λ (logs : List (Option Numbered)). opened (set_of name shape) (or_blank logs)) (lists_are laws tells name shape r told alike names sound e asks.set asks.disks)
 
     sound_of : (story : Story) → asks.machine.how ≡ Some story → (first_core S.set story.found).ended ≡ None → IsSoundAtEntry S ran
     sound_of story is going =
-        sound_at S ran story told_ran.on (shown_of story is) going e.disks asks.disks.stands
-        (subst (λ (logs : List (Option Numbered)). AreSoundAlong (set_of name shape) (taken_lists shape logs)) (sym (lists_are laws tells name shape r told one names sound e asks.set asks.disks)) sound.sound)
+        sound_at S ran story on (told_of story is) alike going e.disks asks.disks.stands
+        (subst (λ (logs : List (Option Numbered)). AreSoundAlong (set_of name shape) (taken_lists shape logs)) (sym (lists_are laws tells name shape r told alike names sound e asks.set asks.disks)) sound.sound)
 
     -- where a line was answered, what was answered is in order
     ordered_by : (n : ℕ) → HasLine n r.journal → IsOrdered now.commands r.journal
     ordered_by n has = by_how asks.machine.how refl
       where
         by_end : (story : Story) → asks.machine.how ≡ Some story → (o : Option CoreFault) → (first_core S.set story.found).ended ≡ o → IsOrdered now.commands r.journal
-        by_end story is None going = (laws.answers S ran (as_told S ran told_ran) (sound_of story is going)).ordered
-        by_end story is (Some fault) ended = absurd (no_note n r.journal (journal_notes S ran story (shown_of story is).went fault ended) has)
+        by_end story is None going = (laws.answers S ran told_ran (sound_of story is going)).ordered
+        by_end story is (Some fault) ended = absurd (no_note n r.journal (journal_notes S ran story (told_of story is).went fault ended) has)
 
         by_how : (how : Option Story) → asks.machine.how ≡ how → IsOrdered now.commands r.journal
-        by_how None is = absurd (subst (λ (journal : List JournalEntry). HasLine n journal) (subst (λ (o : Option Story). ShownAs S ran o) is told_ran.shown).never.journal has)
+        by_how None is = absurd (subst (λ (journal : List JournalEntry). HasLine n journal) (told_never tells S ran told alike names asks.machine is).journal has)
         by_how (Some story) is = by_end story is (first_core S.set story.found).ended refl
 
     -- ---- at a moment
 
-    module _ (goes : GoesOn tells S ran asks.machine) (may : MayStop S ran) (m : ℕ) (during : IsDuring ran.old ran.new m) (images : List Image) (count : AreGoodImages shape (stop_at S ran m) images) where
+    module _ (goes : GoesOn tells S ran asks.machine) (asked : StopsAsAsked S ran) (m : ℕ) (during : IsDuring ran.old ran.new m) (images : List Image) (count : AreGoodImages shape (stop_at S ran m) images) where
       abbrev entry : Store
       entry = entry_store S ran
 
@@ -167,10 +169,10 @@ module _ (laws : Laws) (moments : MomentLaws) (stops : StopsSo) (tells : Type 0)
       first_is = entry_is goes.story goes.is goes.going
 
       reopens : Reopens S (entry_store S ran) ran m images
-      reopens = (stops S ran told_ran (asks.machine.served.headers told) may).reopens m during images count
+      reopens = asked.stops.reopens m during images count
 
       pends : ArePendingAs S ran m images
-      pends = asked_then moments S ran goes.story told_ran.on (shown_of goes.story goes.is) goes.going may m during images count
+      pends = asked.pends m during images count
 
       quiet_then : ((n : ℕ) (o : Op) → client_op (now.commands n) ≡ Some o → IsQuiet o) → (file : List ℕ) → retained_at (opened (set_of name shape) (or_blank (image_logs images))) key ≡ retained_at (store_before name shape r) key
       quiet_then quiet file =
@@ -194,6 +196,14 @@ module _ (laws : Laws) (moments : MomentLaws) (stops : StopsSo) (tells : Type 0)
             subst (λ (s : Store). IsKeptWhole name greatest_limits now.commands key file s (opened (set_of name shape) (or_blank (image_logs images)))) first_is
             (subst (λ (t : Store). IsKeptWhole name greatest_limits now.commands key file (entry_store S ran) t) (sym opens_at) whole_there)
 
+    -- with one copy of each shard it may be stopped so
+
+    asked_alone : shape.copies ≡ 1 → GoesOn tells S ran asks.machine → MayStop S ran → StopsAsAsked S ran
+    asked_alone one goes may = record {
+      stops = stops S ran (shown_run tells S ran told one names asks.machine) (asks.machine.served.headers told) may;
+      pends = λ m during images count. asked_then moments S ran goes.story (on_disks tells S ran told one names asks.machine) (shown_story tells S ran told one names asks.machine goes.story goes.is) goes.going may m during images count;
+    }
+
     -- ---- where no root was asked for
 
     module _ (quiet : (n : ℕ) (o : Op) → client_op (now.commands n) ≡ Some o → IsQuiet o) (file : List ℕ) (given : before file r.new.left ≡ r.old.left) where
@@ -204,7 +214,8 @@ module _ (laws : Laws) (moments : MomentLaws) (stops : StopsSo) (tells : Type 0)
         file = file;
         given = given;
         behind = inl (quiet_after name greatest_limits now.commands key file (store_before name shape r) quiet r.journal);
-        stopped = λ goes may m during images count. inl (quiet_then goes may m during images count quiet file);
+        stopped = λ goes asked m during images count. inl (quiet_then goes asked m during images count quiet file);
+        alone = asked_alone;
       }
 
     quiet_by : (ops : List Op) → now.asked ≡ start.asked ++ ops → AllByRecursion IsQuiet ops → (n : ℕ) (o : Op) → client_op (now.commands n) ≡ Some o → IsQuiet o
@@ -223,7 +234,7 @@ module _ (laws : Laws) (moments : MomentLaws) (stops : StopsSo) (tells : Type 0)
       s = store_now root.before.began root.before
 
       began_at : root.before.began ≡ record { name = name; limits = greatest_limits; store = store_before name shape r }
-      began_at = sym root.began ∙ (began ∙ (asks.began ∙ began_is laws tells name shape r told one names sound e asks.set asks.disks))
+      began_at = sym root.began ∙ (began ∙ (asks.began ∙ began_is laws tells name shape r told alike names sound e asks.set asks.disks))
 
       store_there : store_now root.before.began root.before ≡ run greatest_limits was (events_of now.commands name greatest_limits was root.before.journal)
       store_there =
@@ -232,7 +243,7 @@ module _ (laws : Laws) (moments : MomentLaws) (stops : StopsSo) (tells : Type 0)
           (events-same root.before.commands now.commands name greatest_limits was root.before.journal (finds_same root.before now (op.Root our_session key root.top.handle) root.begun root.before.journal root.begun.unused))
 
       planted : HasPlanted name root.before.began (store_now root.before.began root.before) our_session (root.top ∷ []) [] [] (place ∷ [])
-      planted = root.grown.told (here laws tells name shape r told one names sound e start now asks)
+      planted = root.grown.told (here laws tells name shape r told alike names sound e start now asks)
 
       top : HoldsTop Matches (store_now root.before.began root.before) root.top
       top = holds_top name root.before.began (store_now root.before.began root.before) root.top place planted
@@ -290,8 +301,9 @@ module _ (laws : Laws) (moments : MomentLaws) (stops : StopsSo) (tells : Type 0)
         file = file;
         given = given;
         behind = with_end (store_behind name shape now.commands r) behind;
-        stopped = λ goes may m during images count. with_end (opened (set_of name shape) (or_blank (image_logs images)))
-            (whole_then goes may m during images count file root.before.journal root.begun.more root.begun.line root.top.handle poised journal_is ordered);
+        stopped = λ goes asked m during images count. with_end (opened (set_of name shape) (or_blank (image_logs images)))
+            (whole_then goes asked m during images count file root.before.journal root.begun.more root.begun.line root.top.handle poised journal_is ordered);
+        alone = asked_alone;
       }
         where
           with_end : (t : Store) → IsKeptWhole name greatest_limits now.commands key file (store_before name shape r) t → KeepsWhole name (store_before name shape r) key file r.new.left t

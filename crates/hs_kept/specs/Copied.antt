@@ -1,4 +1,4 @@
--- What a copy of a root comes to in the words of the plain store, where the disks of both stores tell their contents and are sound at entry, with one copy of each shard.
+-- What a copy of a root comes to in the words of the plain store, where the disks of both stores tell their contents, and are sound and open alike at entry.
 use Rattle.std.specs.Prelude.{List, Option, ℕ, ◌≡◌, ◌⊎◌}
 use Rattle.hs_copy.specs.Copied.{IsCopied}
 use Rattle.hs_copy.specs.Writing.{IsCopyRefusal}
@@ -11,7 +11,7 @@ use Rattle.hs_model.specs.declared.reply.Reply.{Reply}
 use Rattle.hs_model.specs.declared.reply.Reply.TheVariants as reply
 use Rattle.hs_promise.specs.Run.{Ran}
 use Rattle.hs_promise.specs.declared.status.Status.TheVariants as status
-use Rattle.hs_kept.specs.Kept.{AsksPlainly, IsSoundStart, store_before, store_behind}
+use Rattle.hs_kept.specs.Kept.{AsksPlainly, IsSoundStart, StartsAlike, store_before, store_behind}
 
 -- the disks of both hold bytes, and have sound lists
 pub record AreSoundStarts (name : List ℕ → Address) (shapes : Shapes) (r : Ran) : Type 0 where
@@ -32,11 +32,6 @@ pub record CopiesPlainly (tells : Type 0) (name : List ℕ → Address) (shapes 
   pub done : r.ending ≡ status.Done → HasRootOf tells name shapes key r
   pub refusal : (told : Reply) → r.ending ≡ status.Refused told → (told ≡ reply.NoKey key) ⊎ IsCopyRefusal key told
 
--- with what the command itself promises, all that is promised of it
-pub record CopiesAndKeeps (tells : Type 0) (name : List ℕ → Address) (shapes : Shapes) (key : List ℕ) (every : Option ℕ) (r : Ran) : Type 0 where
-  pub copies : CopiesRoot tells name shapes key every r
-  pub plainly : tells → shapes.first.copies ≡ 1 → shapes.second.copies ≡ 1 → AreSoundStarts name shapes r → CopiesPlainly tells name shapes key r
-
 -- ---- the first store
 
 -- of what was asked of the first store nothing was answered; or it is a legal run of the plain store, behind which it has each root and block that a root kept at its opening
@@ -44,3 +39,11 @@ pub data FirstStays (tells : Type 0) (name : List ℕ → Address) (shapes : Sha
   Unasked : IsUnanswered (in_first shapes.first r.ending r) → FirstStays tells name shapes r
   Asked : (one : Ran) → IsInFirst shapes.first r one → (reads : ℕ → Option Command) → AsksPlainly tells name shapes.first one reads
       → KeepsItsOwn (store_before name shapes.first one) (store_behind name shapes.first reads one) → FirstStays tells name shapes r
+
+-- ---- all that is promised
+
+-- with what the command itself promises, all that is promised of it
+pub record CopiesAndKeeps (tells : Type 0) (name : List ℕ → Address) (shapes : Shapes) (key : List ℕ) (every : Option ℕ) (r : Ran) : Type 0 where
+  pub copies : CopiesRoot tells name shapes key every r
+  pub plainly : tells → StartsAlike shapes.first (in_first shapes.first r.ending r) → StartsAlike shapes.second (in_second shapes.first r.ending r) → AreSoundStarts name shapes r → CopiesPlainly tells name shapes key r
+  pub stays : tells → StartsAlike shapes.first (in_first shapes.first r.ending r) → IsSoundStart name shapes.first (in_first shapes.first r.ending r) → FirstStays tells name shapes r
