@@ -1,4 +1,4 @@
--- Operations that open, write and forget leave each root, and so do blocks, enters and sweeps that happen.
+-- Operations that open, write, read, look and forget leave each root, and so do blocks, enters and sweeps that happen.
 use Rattle.std.proofs.Common.{◌≡◌, ◌∙◌, inl, inr, ap, sym, subst, refl, ℕ, Bool, true, false, List, [], ◌∷◌, Option, Some, None, if◌then◌else◌}
 use Rattle.std.specs.BTreeMap.{insert_entry}
 use Rattle.std.specs.List.{AllByRecursion}
@@ -43,6 +43,8 @@ use Rattle.hs_kept.proofs.NobodyLemmas.{none_asked}
 abbrev pub IsQuiet : Op → Type 0
 IsQuiet (op.Open name) = Unit {0}
 IsQuiet (op.Write name payload handles address) = Unit {0}
+IsQuiet (op.Read name handle) = Unit {0}
+IsQuiet (op.Look name key) = Unit {0}
 IsQuiet (op.Forget name handle) = Unit {0}
 IsQuiet other = ⊥
 
@@ -52,8 +54,8 @@ granted_roots s (op.Open name) q = refl
 granted_roots s (op.Write name payload handles address) q = put-roots (with_block s (given_address address) (written s name payload handles)) name _
 granted_roots s (op.Forget name handle) q = put-roots s name _
 granted_roots s (op.Close name) q = absurd q
-granted_roots s (op.Read name handle) q = absurd q
-granted_roots s (op.Look name key) q = absurd q
+granted_roots s (op.Read name handle) q = put-roots s name _
+granted_roots s (op.Look name key) q = put-roots s name _
 granted_roots s (op.Root name key handle) q = absurd q
 granted_roots s (op.Drop key) q = absurd q
 granted_roots s (op.Name name handle) q = absurd q
@@ -72,8 +74,8 @@ addressed_quiet name s (op.Write session payload handles address) q = tt
 addressed_quiet name s (op.Open session) q = tt
 addressed_quiet name s (op.Forget session handle) q = tt
 addressed_quiet name s (op.Close session) q = absurd q
-addressed_quiet name s (op.Read session handle) q = absurd q
-addressed_quiet name s (op.Look session key) q = absurd q
+addressed_quiet name s (op.Read session handle) q = tt
+addressed_quiet name s (op.Look session key) q = tt
 addressed_quiet name s (op.Root session key handle) q = absurd q
 addressed_quiet name s (op.Drop key) q = absurd q
 addressed_quiet name s (op.Name session handle) q = absurd q

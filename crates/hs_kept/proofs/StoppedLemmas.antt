@@ -174,7 +174,7 @@ module _ (laws : Laws) (moments : MomentLaws) (stops : StopsSo) (tells : Type 0)
       pends : ArePendingAs S ran m images
       pends = asked.pends m during images count
 
-      quiet_then : ((n : ℕ) (o : Op) → client_op (now.commands n) ≡ Some o → IsQuiet o) → (file : List ℕ) → retained_at (opened (set_of name shape) (or_blank (image_logs images))) key ≡ retained_at (store_before name shape r) key
+      pub quiet_then : ((n : ℕ) (o : Op) → client_op (now.commands n) ≡ Some o → IsQuiet o) → (file : List ℕ) → retained_at (opened (set_of name shape) (or_blank (image_logs images))) key ≡ retained_at (store_before name shape r) key
       quiet_then quiet file =
           ap (λ (t : Store). retained_at t key) reopens.stands
           ∙ quiet_stop name greatest_limits now.commands key file entry quiet (below m r.journal) (pending_at S ran m images) pends
@@ -198,7 +198,7 @@ module _ (laws : Laws) (moments : MomentLaws) (stops : StopsSo) (tells : Type 0)
 
     -- with one copy of each shard it may be stopped so
 
-    asked_alone : shape.copies ≡ 1 → GoesOn tells S ran asks.machine → MayStop S ran → StopsAsAsked S ran
+    pub asked_alone : shape.copies ≡ 1 → GoesOn tells S ran asks.machine → MayStop S ran → StopsAsAsked S ran
     asked_alone one goes may = record {
       stops = stops S ran (shown_run tells S ran told one names asks.machine) (asks.machine.served.headers told) may;
       pends = λ m during images count. asked_then moments S ran goes.story (on_disks tells S ran told one names asks.machine) (shown_story tells S ran told one names asks.machine goes.story goes.is) goes.going may m during images count;

@@ -11,7 +11,9 @@ use Rattle.hs_model.specs.declared.reply.Reply.{Reply}
 use Rattle.hs_model.specs.declared.reply.Reply.TheVariants as reply
 use Rattle.hs_promise.specs.Run.{Ran}
 use Rattle.hs_promise.specs.declared.status.Status.TheVariants as status
+use Rattle.hs_tree.specs.Growing.{KeepsRoots}
 use Rattle.hs_kept.specs.Kept.{AsksPlainly, IsSoundStart, StartsAlike, store_before, store_behind}
+use Rattle.hs_kept.specs.Stopped.{AtMoments, StopsAlone}
 
 -- the disks of both hold bytes, and have sound lists
 pub record AreSoundStarts (name : List ℕ → Address) (shapes : Shapes) (r : Ran) : Type 0 where
@@ -34,11 +36,16 @@ pub record CopiesPlainly (tells : Type 0) (name : List ℕ → Address) (shapes 
 
 -- ---- the first store
 
--- of what was asked of the first store nothing was answered; or it is a legal run of the plain store, behind which it has each root and block that a root kept at its opening
+-- behind what was answered it has each root and block that a root kept at its opening, and at each moment of it each key keeps what it kept
+pub record StaysItself (tells : Type 0) (name : List ℕ → Address) (shape : Shape) (one : Ran) (reads : ℕ → Option Command) (asks : AsksPlainly tells name shape one reads) : Type 0 where
+  pub behind : KeepsItsOwn (store_before name shape one) (store_behind name shape reads one)
+  pub stopped : AtMoments tells name shape one reads asks (KeepsRoots (store_before name shape one))
+  pub alone : StopsAlone tells name shape one reads asks
+
+-- of what was asked of the first store nothing was answered; or it is a legal run of the plain store, and the store stays itself
 pub data FirstStays (tells : Type 0) (name : List ℕ → Address) (shapes : Shapes) (r : Ran) : Type 0 where
   Unasked : IsUnanswered (in_first shapes.first r.ending r) → FirstStays tells name shapes r
-  Asked : (one : Ran) → IsInFirst shapes.first r one → (reads : ℕ → Option Command) → AsksPlainly tells name shapes.first one reads
-      → KeepsItsOwn (store_before name shapes.first one) (store_behind name shapes.first reads one) → FirstStays tells name shapes r
+  Asked : (one : Ran) → IsInFirst shapes.first r one → (reads : ℕ → Option Command) → (asks : AsksPlainly tells name shapes.first one reads) → StaysItself tells name shapes.first one reads asks → FirstStays tells name shapes r
 
 -- ---- all that is promised
 

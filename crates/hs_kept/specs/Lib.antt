@@ -1,6 +1,6 @@
 pub mod Entry
 pub mod Kept
-pub mod Copied
 pub mod Pending
 pub mod Stopped
+pub mod Copied
 pub mod Survives

@@ -41,19 +41,28 @@ pub record StopsAsAsked (S : Script) (r : Ran) : Type 0 where
   pub stops : Stops S (entry_store S r) r
   pub pends : PendsAsAsked S r
 
--- of what the source gave: behind what was answered; and, where its stops are so, at each moment of it, whatever images count. With one copy of each shard they are, where it may be stopped
+-- this is so of the store at which whatever images open that count at a moment of what a client was answered, where its core goes on behind its opening and its stops are so
+abbrev pub AtMoments : (tells : Type 0) (name : List ℕ → Address) (shape : Shape) (r : Ran) (commands : ℕ → Option Command) → AsksPlainly tells name shape r commands → (Store → Type 0) → Type 0
+AtMoments tells name shape r commands asks P =
+    GoesOn tells (client_script name shape commands) (client_run tells name shape r commands asks) asks.machine → StopsAsAsked (client_script name shape commands) (client_run tells name shape r commands asks)
+    → (m : ℕ) → IsDuring (client_run tells name shape r commands asks).old (client_run tells name shape r commands asks).new m
+    → (images : List Image) → AreGoodImages shape (stop_at (client_script name shape commands) (client_run tells name shape r commands asks) m) images → P (opened (set_of name shape) (or_blank (image_logs images)))
+
+-- with one copy of each shard its stops are so, where it may be stopped
+abbrev pub StopsAlone : (tells : Type 0) (name : List ℕ → Address) (shape : Shape) (r : Ran) (commands : ℕ → Option Command) → AsksPlainly tells name shape r commands → Type 0
+StopsAlone tells name shape r commands asks =
+    shape.copies ≡ 1 → GoesOn tells (client_script name shape commands) (client_run tells name shape r commands asks) asks.machine → MayStop (client_script name shape commands) (client_run tells name shape r commands asks)
+    → StopsAsAsked (client_script name shape commands) (client_run tells name shape r commands asks)
+
+-- of what the source gave: behind what was answered, and at each moment of it
 pub record KeepsKeyWhole (tells : Type 0) (name : List ℕ → Address) (shape : Shape) (key : List ℕ) (r : Ran) : Type 0 where
   pub commands : ℕ → Option Command
   pub asks : AsksPlainly tells name shape r commands
   pub file : List ℕ
   pub given : before file r.new.left ≡ r.old.left
   pub behind : KeepsWhole name (store_before name shape r) key file r.new.left (store_behind name shape commands r)
-  pub stopped : GoesOn tells (client_script name shape commands) (client_run tells name shape r commands asks) asks.machine → StopsAsAsked (client_script name shape commands) (client_run tells name shape r commands asks)
-      → (m : ℕ) → IsDuring (client_run tells name shape r commands asks).old (client_run tells name shape r commands asks).new m
-      → (images : List Image) → AreGoodImages shape (stop_at (client_script name shape commands) (client_run tells name shape r commands asks) m) images
-      → KeepsWhole name (store_before name shape r) key file r.new.left (opened (set_of name shape) (or_blank (image_logs images)))
-  pub alone : shape.copies ≡ 1 → GoesOn tells (client_script name shape commands) (client_run tells name shape r commands asks) asks.machine → MayStop (client_script name shape commands) (client_run tells name shape r commands asks)
-      → StopsAsAsked (client_script name shape commands) (client_run tells name shape r commands asks)
+  pub stopped : AtMoments tells name shape r commands asks (KeepsWhole name (store_before name shape r) key file r.new.left)
+  pub alone : StopsAlone tells name shape r commands asks
 
 -- nothing was asked for and answered, or so it is
 abbrev pub EndsWhole : Type 0 → (List ℕ → Address) → Shape → List ℕ → Ran → Type 0

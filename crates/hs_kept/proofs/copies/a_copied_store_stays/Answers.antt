@@ -1,4 +1,5 @@
 use Rattle.hs_kept.proofs.LawLemmas.{Laws}
+use Rattle.hs_kept.proofs.MomentLemmas.{MomentLaws}
 use Rattle.hs_kept.proofs.SourceLemmas.{first_stays}
 use Rattle.hs_kept.proofs.copies.a_copied_store_stays.Goals as goal
 
@@ -24,4 +25,11 @@ returns g c =
       named = c.a_store_of_sound_lists_is_right.ensures.named;
       spelled = c.a_store_of_sound_lists_is_right.ensures.spelled;
     } in
-    λ name shapes key every r told one names sound h. first_stays laws g.D.Disk.tells name shapes r told one names sound key every h
+    let moments : MomentLaws = record {
+      opens = c.a_run_stands.ensures.opens;
+      stands = c.a_run_stands.ensures.keeps;
+      soundly = c.a_run_stands.ensures.soundly;
+      running = c.a_run_goes_on.ensures.opens;
+      goes_on = λ start. c.a_run_goes_on.ensures.goes_on start;
+    } in
+    λ name shapes key every r told alike names sound h. first_stays laws moments c.a_run_may_stop.ensures g.D.Disk.tells name shapes r told alike names sound key every h
