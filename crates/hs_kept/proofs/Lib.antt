@@ -1,3 +1,4 @@
+pub mod AlikeLemmas
 pub mod AskedLemmas
 pub mod AwaitLemmas
 pub mod CopiedLemmas

@@ -1,14 +1,16 @@
 -- A run on the disks that were handed over: its answers, from the store at which their lists open.
-use Rattle.std.proofs.Common.{◌≡◌, ◌∙◌, ◌⊎◌, inl, inr, ap, sym, subst, refl, ℕ, ◌+◌, ◌*◌, ◌<◌, ◌≤◌, ◌++◌, false, List, [], ◌∷◌, length, map, Option, Some, None, arith}
-use Rattle.std.proofs.lemmas.List.{length-map}
+use Rattle.std.proofs.Common.{◌≡◌, ◌∙◌, ◌⊎◌, inl, inr, ap, sym, subst, refl, ℕ, ◌+◌, ◌*◌, ◌<◌, ◌≤◌, ◌++◌, Bool, true, false, List, [], ◌∷◌, length, map, Option, Some, None, arith}
+use Rattle.std.proofs.lemmas.List.{get_or-map, length-map}
 use Rattle.std.specs.List.{AllByRecursion}
-use Rattle.std.specs.Prelude.{IfSome, IsSome, if◌then◌else◌, slice_index_or}
+use Rattle.std.specs.Prelude.{IfSome, if◌then◌else◌, slice_index_or, unwrap_or}
 use Rattle.hs_answered.specs.Telling.{Judging}
 use Rattle.hs_clauses.proofs.AsideLemmas.{taken_at, taken_counts, taken_log, taken_of}
 use Rattle.hs_clauses.proofs.EndedLemmas.{journal_notes}
+use Rattle.hs_clauses.proofs.EntryLemmas.{entry_count, entry_log}
 use Rattle.hs_clauses.proofs.GreatestLemmas.{FoundFirst, within}
 use Rattle.hs_clauses.proofs.ListLemmas.{none_aside}
 use Rattle.hs_clauses.proofs.NoteLemmas.{notes_answered, notes_legal}
+use Rattle.hs_clauses.proofs.ReadLemmas.{from_empty, read_from_one}
 use Rattle.hs_clauses.proofs.ShownLemmas.{shown_of, unopened_of}
 use Rattle.hs_clauses.proofs.ToldRunLemmas.{told_of}
 use Rattle.hs_clauses.proofs.UnopenedLemmas.{never_answers}
@@ -17,7 +19,8 @@ use Rattle.hs_cluster.proofs.TakenLemmas.{home_between}
 use Rattle.hs_cluster.specs.Disks.{DiskSeen, stands_of}
 use Rattle.hs_desk.specs.declared.fault.CoreFault.{CoreFault}
 use Rattle.hs_events.specs.Found.{first_core}
-use Rattle.hs_events.specs.Taken.{is_best, or_blank, peer_count, taken_lists}
+use Rattle.hs_events.specs.Sane.{IsFromOne}
+use Rattle.hs_events.specs.Taken.{is_best, is_taken, or_blank, peer_count, taken_lists}
 use Rattle.hs_fold.specs.Runs.Opened.{catalogues, opened, store_of}
 use Rattle.hs_fold.specs.Shards.Setting.{Numbered}
 use Rattle.hs_journal.specs.Events.{IsAnswered, client_op, events_of}
@@ -40,7 +43,8 @@ use Rattle.hs_side.specs.Current.{list_in}
 use Rattle.hs_sound.specs.Stay.{AreSoundAlong}
 use Rattle.hs_standing.specs.Held.{GivesAddresses}
 use Rattle.hs_kept.proofs.LawLemmas.{Laws}
-use Rattle.hs_kept.specs.Entry.{AreCopiesAlike, LeavesEach, OpensAlike, logs_but}
+use Rattle.hs_kept.proofs.AlikeLemmas.{taken_alike, taken_is_one}
+use Rattle.hs_kept.specs.Entry.{AreCopiesAlike, OpensAlike}
 
 -- ---- lists
 
@@ -58,11 +62,6 @@ logs_same S r k (disk ∷ disks) counts =
     let first : (if is_aside S r k then None else list_in disk.stands.seen) ≡ list_in disk.stands.seen = ap (λ b. if b then None else list_in disk.stands.seen) (counts k (omega arith) (omega arith)) in
     let rest : logs_from S r (k + 1) (stands_of disks) ≡ lists_of disks = logs_same S r (k + 1) disks (λ p low high. counts p (omega (arith, low)) (omega (arith, high))) in
     λ i. first i ∷ rest i
-
--- those that count are those of the disks, but of peers that are set aside
-logs_are_but : (S : Script) (r : Ran) (k : ℕ) (disks : List Standing) → logs_from S r k disks ≡ logs_but (is_aside S r) k disks
-logs_are_but S r k [] = refl
-logs_are_but S r k (disk ∷ disks) = λ i. (if is_aside S r k then None else list_in disk.seen) ∷ logs_are_but S r (k + 1) disks i
 
 -- of two journals behind one another, the first
 pub all_front : {X : Type 0} (P : X → Type 0) (xs ys : List X) → AllByRecursion P (xs ++ ys) → AllByRecursion P xs
@@ -144,30 +143,76 @@ module _ (S : Script) (r : Ran) (story : Story) (on : HasItsDisks S r) (told : I
     logs_are : entry_logs S r ≡ lists_of disks
     logs_are = ap (λ standing. logs_from S r 0 standing) (sym handed) ∙ logs_same S r 0 disks counts
 
-  -- of each shard the peer of the taken log counts
-  leaves : LeavesEach S.set.shape (is_aside S r) r.old.disks
-  leaves shard low =
-      let taken : FoundFirst (is_best S.set.shape story.found.logs shard) (peer_of S.set.shape shard 0) S.set.shape.copies = taken_of S story.found on.shape told.went.found.logs told.went.found.kept going shard low in
-      let inside : taken.at < peer_count S.set.shape = (let to = taken.to in let w = within S.set.shape story.found.logs told.went.found.logs shard low in omega (arith, to, w)) in
-      let there = taken_at S story.found on.shape told.went.found.logs told.went.found.kept going shard low in
-      (taken.at, inside, home_between S.set.shape shard taken.at taken.from taken.to, taken_counts S r story told.went on.shape going taken.at inside there, some_log taken.at inside
-      (taken_log S story.found on.shape told.went.found.logs told.went.found.kept going taken.at inside there))
-    where
-      some_of : (o : Option Numbered) → (o ≡ None → ⊥) → IsSome o
-      some_of None none = absurd (none refl)
-      some_of (Some list) none = refl
+  -- of each shard the peer of the taken log counts, and has a log
+  abbrev seen_logs : List (Option Numbered)
+  seen_logs = map (λ (disk : Standing). list_in disk.seen) r.old.disks
 
-      some_log : (p : ℕ) → p < peer_count S.set.shape → (slice_index_or story.found.logs p None ≡ None → ⊥) → IsSome (list_in (disk_at r.old.disks p).seen)
-      some_log p inside none = elim (told.read p inside) [
-        | inl same ↦ some_of (list_in (disk_at r.old.disks p).seen) (λ e. none (same ∙ e))
-        | inr failed ↦ absurd (none failed.0)
-      ]
+  seen_at : (p : ℕ) → p < peer_count S.set.shape → slice_index_or seen_logs p None ≡ list_in (disk_at r.old.disks p).seen
+  seen_at p low = get_or-map (λ (disk : Standing). list_in disk.seen) r.old.disks p untold None (let n = on.disks in omega (arith, n, low))
+
+  entry_at : (p : ℕ) → p < peer_count S.set.shape → slice_index_or (entry_logs S r) p None ≡ (if is_aside S r p then None else list_in (disk_at r.old.disks p).seen)
+  entry_at p low = entry_log S r p (let n = on.disks in omega (arith, n, low))
+
+  seen_numbered : (o : Option Numbered) (p : ℕ) → list_in (disk_at r.old.disks p).seen ≡ o → IsFromOne (unwrap_or (list_in (disk_at r.old.disks p).seen) [])
+  seen_numbered None p e = subst (λ (o : Option Numbered). IsFromOne (unwrap_or o [])) (sym e) from_empty
+  seen_numbered (Some list) p e = subst (λ (o : Option Numbered). IsFromOne (unwrap_or o [])) (sym e) (read_from_one (disk_at r.old.disks p).seen list e)
+
+  module _ (same : AreCopiesAlike S.set.shape r.old.moment r.old.disks) (shard : ℕ) (low : shard < S.set.shape.shards) where
+    abbrev taken : FoundFirst (is_best S.set.shape story.found.logs shard) (peer_of S.set.shape shard 0) S.set.shape.copies
+    taken = taken_of S story.found on.shape told.went.found.logs told.went.found.kept going shard low
+
+    inside : (p : ℕ) → p < peer_of S.set.shape shard 0 + S.set.shape.copies → p < peer_count S.set.shape
+    inside p to = let w = within S.set.shape story.found.logs told.went.found.logs shard low in omega (arith, to, w)
+
+    there : is_taken S.set.shape story.found.logs taken.at ≡ true
+    there = taken_at S story.found on.shape told.went.found.logs told.went.found.kept going shard low
+
+    counts_there : is_aside S r taken.at ≡ false
+    counts_there = taken_counts S r story told.went on.shape going taken.at (inside taken.at taken.to) there
+
+    some_of : (o : Option Numbered) → (o ≡ None → ⊥) → (list : Numbered) × (o ≡ Some list)
+    some_of None none = absurd (none refl)
+    some_of (Some list) none = (list, refl)
+
+    its_list : (list : Numbered) × (list_in (disk_at r.old.disks taken.at).seen ≡ Some list)
+    its_list =
+        let none = taken_log S story.found on.shape told.went.found.logs told.went.found.kept going taken.at (inside taken.at taken.to) there in
+        elim (told.read taken.at (inside taken.at taken.to)) [
+          | inl read ↦ some_of (list_in (disk_at r.old.disks taken.at).seen) (λ e. none (read ∙ e))
+          | inr failed ↦ absurd (none failed.0)
+        ]
+
+    same_seen : (p : ℕ) (its : Numbered) → peer_of S.set.shape shard 0 ≤ p → p < peer_of S.set.shape shard 0 + S.set.shape.copies → list_in (disk_at r.old.disks p).seen ≡ Some its → its ≡ its_list.0
+    same_seen p its from to e =
+        same.same taken.at p its_list.0 its (inside taken.at taken.to) (inside p to) (home_between S.set.shape shard taken.at taken.from taken.to ∙ sym (home_between S.set.shape shard p from to)) its_list.1 e
+
+    seen_is : slice_index_or (taken_lists S.set.shape seen_logs) shard [] ≡ its_list.0
+    seen_is =
+        taken_is_one S.set.shape seen_logs (length-map r.old.disks (λ (disk : Standing). list_in disk.seen) ∙ on.disks) shard low
+        (λ p from to. subst (λ (o : Option Numbered). IsFromOne (unwrap_or o [])) (sym (seen_at p (inside p to))) (seen_numbered (list_in (disk_at r.old.disks p).seen) p refl))
+        taken.at its_list.0 taken.from taken.to (seen_at taken.at (inside taken.at taken.to) ∙ its_list.1)
+        (λ p its from to e. same_seen p its from to (sym (seen_at p (inside p to)) ∙ e))
+
+    entry_numbered : (b : Bool) (p : ℕ) → IsFromOne (unwrap_or (if b then None else list_in (disk_at r.old.disks p).seen) [])
+    entry_numbered true p = from_empty
+    entry_numbered false p = seen_numbered (list_in (disk_at r.old.disks p).seen) p refl
+
+    same_entry : (b : Bool) (p : ℕ) (its : Numbered) → peer_of S.set.shape shard 0 ≤ p → p < peer_of S.set.shape shard 0 + S.set.shape.copies → (if b then None else list_in (disk_at r.old.disks p).seen) ≡ Some its → its ≡ its_list.0
+    same_entry true p its from to e = absurd (cc e)
+    same_entry false p its from to e = same_seen p its from to e
+
+    entry_is : slice_index_or (taken_lists S.set.shape (entry_logs S r)) shard [] ≡ its_list.0
+    entry_is =
+        taken_is_one S.set.shape (entry_logs S r) (entry_count S r ∙ on.disks) shard low
+        (λ p from to. subst (λ (o : Option Numbered). IsFromOne (unwrap_or o [])) (sym (entry_at p (inside p to))) (entry_numbered (is_aside S r p) p))
+        taken.at its_list.0 taken.from taken.to (entry_at taken.at (inside taken.at taken.to) ∙ ap (λ (b : Bool). if b then None else list_in (disk_at r.old.disks taken.at).seen) counts_there ∙ its_list.1)
+        (λ p its from to e. same_entry (is_aside S r p) p its from to (sym (entry_at p (inside p to)) ∙ e))
 
   taken_same : taken_lists S.set.shape (entry_logs S r) ≡ taken_lists S.set.shape (lists_of disks)
   taken_same = elim alike [
     | inl one ↦ ap (λ (logs : List (Option Numbered)). taken_lists S.set.shape logs) (logs_are one)
     | inr same ↦
-        ap (λ (logs : List (Option Numbered)). taken_lists S.set.shape logs) (logs_are_but S r 0 r.old.disks) ∙ same.same (is_aside S r) leaves
+        taken_alike S.set.shape (entry_logs S r) seen_logs (λ shard low. entry_is same shard low ∙ sym (seen_is same shard low))
         ∙ ap (λ (logs : List (Option Numbered)). taken_lists S.set.shape logs) lists_there
   ]
 

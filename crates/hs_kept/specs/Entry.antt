@@ -1,5 +1,5 @@
 -- What is asked of the disks that a client's store is handed over on.
-use Rattle.std.specs.Prelude.{Bool, IsSome, List, None, Option, [], false, if◌then◌else◌, map, ℕ, ◌+◌, ◌<◌, ◌∷◌, ◌≡◌, ◌≤◌, ◌⊎◌}
+use Rattle.std.specs.Prelude.{List, Some, ℕ, ◌<◌, ◌≡◌, ◌≤◌, ◌⊎◌}
 use Rattle.hs_asker.specs.Going.{AtEntry}
 use Rattle.hs_asker.specs.Shows.{entry_lists}
 use Rattle.hs_cluster.specs.Disks.{stands_of}
@@ -18,22 +18,11 @@ pub record IsSoundEntry (e : AtEntry) : Type 0 where
   pub bytes : HoldBytes (stands_of e.disks)
   pub sound : AreSoundAlong e.set (taken_lists e.set.shape (entry_lists e))
 
--- ---- the copies of a shard
-
--- the logs of some disks, from a peer on; the disk of a peer that is set aside counts as blank
-abbrev pub logs_but : (ℕ → Bool) → ℕ → List Standing → List (Option Numbered)
-logs_but aside peer [] = []
-logs_but aside peer (disk ∷ disks) = (if aside peer then None else list_in disk.seen) ∷ logs_but aside (peer + 1) disks
-
--- of each shard there is a peer left that has a log
-abbrev pub LeavesEach : Shape → (ℕ → Bool) → List Standing → Type 0
-LeavesEach shape aside disks =
-    (shard : ℕ) → shard < shape.shards → (peer : ℕ) × (peer < peer_count shape) × (home_of shape peer ≡ shard) × (aside peer ≡ false) × IsSome (list_in (disk_at disks peer).seen)
-
--- no call of a disk was ahead; and whichever peers are set aside, as long as each shard has one left, the lists that are taken are the same
+-- no call of a disk was ahead; and those disks of a shard that have a log have the same one
 pub record AreCopiesAlike (shape : Shape) (moment : ℕ) (disks : List Standing) : Type 0 where
   pub called : (peer : ℕ) → (disk_at disks peer).last ≤ moment
-  pub same : (aside : ℕ → Bool) → LeavesEach shape aside disks → taken_lists shape (logs_but aside 0 disks) ≡ taken_lists shape (map (λ disk. list_in disk.seen) disks)
+  pub same : (peer other : ℕ) (one its : Numbered) → peer < peer_count shape → other < peer_count shape → home_of shape peer ≡ home_of shape other
+      → list_in (disk_at disks peer).seen ≡ Some one → list_in (disk_at disks other).seen ≡ Some its → its ≡ one
 
 -- there is one copy of each shard, or it is so of its copies
 abbrev pub OpensAlike : Shape → ℕ → List Standing → Type 0
