@@ -31,6 +31,7 @@ use Rattle.hs_model.specs.Store.{Store}
 use Rattle.hs_model.specs.declared.command.Command.{Command}
 use Rattle.hs_moments.proofs.OpeningLemmas.{all_good}
 use Rattle.hs_ports.specs.Disk.{Standing}
+use Rattle.hs_ports.specs.MemoryDisk.{untold}
 use Rattle.hs_ports.specs.Moments.{disk_at}
 use Rattle.hs_promise.specs.Answers.{Answers}
 use Rattle.hs_promise.specs.Entry.{IsSoundAtEntry, entry_logs, entry_store, is_aside, logs_from}
