@@ -6,6 +6,7 @@ use Rattle.hs_copy.specs.Listing.{KeepsItsOwn}
 use Rattle.hs_files.specs.Client.{IsUnanswered}
 use Rattle.hs_files.specs.Copied.{CopiesRoot, IsInFirst, Shapes, in_first, in_second}
 use Rattle.hs_limits.specs.declared.address.Address.{Address}
+use Rattle.hs_limits.specs.declared.shape.Shape.{Shape}
 use Rattle.hs_model.specs.declared.command.Command.{Command}
 use Rattle.hs_model.specs.declared.reply.Reply.{Reply}
 use Rattle.hs_model.specs.declared.reply.Reply.TheVariants as reply
