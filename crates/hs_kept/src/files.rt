@@ -15,10 +15,11 @@ use hs_ports::Disk;
 use hs_settled::shard_0_is_led_by_lines;
 use hs_standing::{a_script_is_answered, each_event_is_told};
 
-/// Where the disks tell their contents, open alike, and hold bytes and sound lists at entry: a store that is done keeps its file under the key, with each block of its tree, and one that
-/// is refused, can't read its source, or was given too much leaves each root as it was (`store`). A
-/// fetch that is done has put the file of the key, and one that tells of no file comes of a key that
-/// keeps none (`fetch`).
+/// Where the disks tell their contents, open alike, and hold bytes and sound lists at entry: a store
+/// that is done keeps its file under the key, with each block of its tree, and one that is refused,
+/// can't read its source, or was given too much leaves each root as it was (`store`). A fetch that is
+/// done has put the file of the key, and one that tells of no file comes of a key that keeps none
+/// (`fetch`).
 pub fn a_file_is_kept<D: Disk>()
     ensures store { (name : List ℕ → Address) (shape : Shape) (key : List ℕ) (r : Ran)
         → D.tells → StartsAlike shape r → GivesAddresses name → IsSoundStart name shape r

@@ -16,10 +16,10 @@ use hs_settled::shard_0_is_led_by_lines;
 use hs_standing::{a_run_goes_on, a_script_is_answered, each_event_is_told};
 
 /// Where the disks tell their contents, open alike, and hold bytes and sound lists at entry: however a
-/// store ends, its key keeps what it kept, or the whole file of what was taken, in the store behind what
-/// was answered. Where its core goes on behind its opening, and its stops are as its lines ask, so it does
-/// in that at which whatever images open that count at a moment of its run; with one copy of each shard
-/// its stops are so, where it may be stopped.
+/// store ends, its key keeps what it kept, or the whole file of what was taken, in the store behind
+/// what was answered. Where its core goes on behind its opening, and its stops are as its lines ask, so
+/// it does in that at which whatever images open that count at a moment of its run; with one copy of
+/// each shard its stops are so, where it may be stopped.
 pub fn a_key_is_kept_whole<D: Disk>()
     ensures { (name : List ℕ → Address) (shape : Shape) (key : List ℕ) (r : Ran)
         → D.tells → StartsAlike shape r → GivesAddresses name → IsSoundStart name shape r

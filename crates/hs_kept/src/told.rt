@@ -12,9 +12,9 @@ use hs_ports::Disk;
 use hs_settled::shard_0_is_led_by_lines;
 use hs_standing::{a_script_is_answered, each_event_is_told};
 
-/// What asks a cluster is told its store where the disks tell their contents, open alike, and hold bytes
-/// and sound lists at entry: what it shows is lawful from the store at which the lists open, however far
-/// it has come, and while it goes on its handles are those of the plain store.
+/// What asks a cluster is told its store where the disks tell their contents, open alike, and hold
+/// bytes and sound lists at entry: what it shows is lawful from the store at which the lists open,
+/// however far it has come, and while it goes on its handles are those of the plain store.
 pub fn a_client_is_told<D: Disk>()
     ensures { (e : AtEntry) → D.tells → OpensAlike e.set.shape e.moment (stands_of e.disks) → GivesAddresses e.set.name
         → IsSoundEntry e → IsTold D.tells e }
