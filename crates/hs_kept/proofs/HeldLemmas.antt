@@ -1,5 +1,7 @@
 -- While an asker goes on, what a session of its core holds is what the plain store holds behind its journal.
-use Rattle.std.proofs.Common.{◌≡◌, ◌∙◌, inl, inr, ap, sym, refl, ℕ, ◌++◌, List, [], Some, None, append-nil}
+use Rattle.std.proofs.Common.{◌≡◌, ◌∙◌, inl, inr, ap, sym, refl, ℕ, ◌*◌, ◌<◌, ◌≤◌, ◌++◌, List, [], Some, None, append-nil, arith, length}
+use Rattle.std.proofs.lemmas.Bool.{cases_lt}
+use Rattle.std.specs.Prelude.{IsSome}
 use Rattle.hs_answered.proofs.ShownLemmas.{held_is}
 use Rattle.hs_answered.specs.Telling.{events_in}
 use Rattle.hs_asker.proofs.HubLemmas.{on_disks as runs_on_disks}
@@ -19,10 +21,17 @@ use Rattle.hs_cluster.specs.Disks.{stands_of}
 use Rattle.hs_core_words.specs.State.{Core}
 use Rattle.hs_events.specs.Found.{first_core}
 use Rattle.hs_fold.specs.Runs.Facts.{Catalogue as Folded}
+use Rattle.hs_journal.specs.Events.{client_op}
+use Rattle.hs_journal.specs.Order.{IsOfLine}
 use Rattle.hs_journal.specs.declared.entry.JournalEntry.{JournalEntry}
 use Rattle.hs_model.specs.Run.{run}
 use Rattle.hs_model.specs.Store.{Store, held_at as store_held}
+use Rattle.hs_model.specs.declared.command.Command.{Command}
+use Rattle.hs_model.specs.declared.command.Command.TheVariants as command
+use Rattle.hs_promise.specs.Answers.{Answers}
+use Rattle.hs_promise.specs.Completes.{SettlesEach}
 use Rattle.hs_promise.specs.Entry.{IsSoundAtEntry, entry_store}
+use Rattle.hs_promise.specs.Lost.{IsPast}
 use Rattle.hs_promise.specs.Machine.{Went}
 use Rattle.hs_promise.specs.Run.{Ran, Script}
 use Rattle.hs_promise.specs.Story.{Story, all_events, last_core}
@@ -32,14 +41,21 @@ use Rattle.hs_run.specs.Going.{Begun, story_of}
 use Rattle.hs_run.specs.Machine.{RunsOnDisks}
 use Rattle.hs_settled.proofs.BegunLemmas.{stands}
 use Rattle.hs_shown.specs.Showing.{as_sessions}
-use Rattle.hs_standing.specs.Run.{RunStands}
-use Rattle.hs_standing.specs.Standing.{judging_of}
+use Rattle.hs_standing.specs.Run.{MayRun, RunBegins, RunStands}
+use Rattle.hs_standing.specs.Standing.{AllMayKeep, judging_of}
 use Rattle.hs_standing.specs.Start.{Start}
 use Rattle.hs_told.specs.InTurn.{IsInTurn}
 use Rattle.hs_tokens.specs.Seats.{held_at, seat_of}
 use Rattle.hs_kept.proofs.LawLemmas.{Laws}
 use Rattle.hs_kept.proofs.RunLemmas.{sound_at, store_is}
+use Rattle.hs_kept.proofs.SaidLemmas.{said_within}
 use Rattle.hs_kept.specs.Entry.{IsSoundEntry, OpensAlike}
+
+-- the clause of settles
+abbrev pub SettlesSo : Type 0
+SettlesSo =
+    (S : Script) (r : Ran) (story : Story) → Went S r story → S.commands 0 ≡ None → RunBegins (start_of S r) story.found → AllMayKeep (start_of S r) (MayRun (start_of S r)) (first_core S.set story.found) (all_events story)
+    → Answers S (entry_store S r) r.journal → SettlesEach S (entry_store S r) r
 
 -- what was told is the journal, where nothing is about to be told and nothing was refused
 told_alone : (journal refused entries : List JournalEntry) → refused ≡ [] → entries ≡ [] → (journal ++ refused) ++ entries ≡ journal
@@ -120,3 +136,23 @@ module _ (laws : Laws) (tells : Type 0) (e : AtEntry) (s : Inside) (h : IsAsker 
 
   pub held_there : (session : List ℕ) (handle : ℕ) → held_at (seat_of session s.cluster.core.sessions) handle ≡ store_held (store_now (began_by e) (shown_in e s)) session handle
   held_there session handle = sym (held_is (store_now (began_by e) (shown_in e s)) s.cluster.core.sessions sessions_are session handle)
+
+  -- ---- what was answered behind a settle
+
+  module _ (settles : SettlesSo) (room : 2 * e.set.shape.shards < e.set.limits.pool) where
+    it_settles : SettlesEach S (entry_store S r) r
+    it_settles = settles S r story its_run (command_zero s.said) soundly.begins (laws.events S r story soundly) (laws.answers S r (record { on = on; how = Some story; told = its_story }) sound)
+
+    past : (line : ℕ) (c : Command) → command_at s.said line ≡ Some c → IsPast r line
+    past line c is =
+        let low : line ≤ length s.said = said_within s.said line c is in
+        let all : s.line ≡ length s.said = g.done.line ∙ sym g.done.each in
+        elim (cases_lt line s.line) [
+          | inl less ↦ inl less
+          | inr more ↦ inr ((let same : line ≡ s.line = omega (arith, low, all, more) in same), refl)
+        ]
+
+    pub answered_there : (line n : ℕ) → command_at s.said line ≡ Some command.Settle → n < line → IsSome (client_op (command_at s.said n)) → (place : ℕ) × IsOfLine s.cluster.core.journal place n
+    answered_there line n is low some =
+        let one = (it_settles room line is (past line command.Settle is)).answered n low some in
+        (one.place, one.at)

@@ -1,5 +1,5 @@
 -- An asker over sound disks that tell, and open alike, shows what is lawful.
-use Rattle.std.proofs.Common.{◌≡◌, ◌∙◌, sym, subst, refl, ℕ, List, [], ◌∷◌, map, Option, Some, None}
+use Rattle.std.proofs.Common.{◌≡◌, subst, refl, ℕ, ◌*◌, ◌<◌, List, [], ◌∷◌, map, Option, Some, None}
 use Rattle.std.specs.List.{AllByRecursion}
 use Rattle.hs_asker.proofs.ToldLemmas.{ran_so}
 use Rattle.hs_asker.specs.Going.{AtEntry, Inside, IsAsker}
@@ -19,10 +19,11 @@ use Rattle.hs_run.specs.Machine.{IsOfCluster}
 use Rattle.hs_side.specs.Current.{list_in}
 use Rattle.hs_standing.specs.Held.{GivesAddresses}
 use Rattle.hs_tokens.specs.Seats.{held_at, seat_of}
-use Rattle.hs_kept.proofs.HeldLemmas.{held_there}
+use Rattle.hs_kept.proofs.HeldLemmas.{SettlesSo, answered_there, held_there}
 use Rattle.hs_kept.proofs.LawLemmas.{Laws}
 use Rattle.hs_kept.proofs.RunLemmas.{AnswersFrom, answers_from, its_disks, told_run}
 use Rattle.hs_kept.proofs.SurvivesLemmas.{all_chosen}
+use Rattle.hs_kept.specs.Answered.{SettlesAsks}
 use Rattle.hs_kept.specs.Entry.{IsSoundEntry, OpensAlike}
 
 -- the lists of disks that hold bytes
@@ -60,13 +61,18 @@ module _ (laws : Laws) (tells : Type 0) (e : AtEntry) (told : tells) (alike : Op
       led = answers.led;
     }
 
+    its_run : IsOfCluster tells (asking_script e.set s.said) (ran_at (status_by s.ended) s.line (Some s.cluster) (silent e.moment e.disks) (silent s.now s.disks)) → s.ended ≡ None
+        → HasItsDisks (asking_script e.set s.said) (ran_at (status_by None) s.line (Some s.cluster) (silent e.moment e.disks) (silent s.now s.disks))
+    its_run ran none =
+        its_disks tells S (ran_at (status_by None) s.line (Some s.cluster) (silent e.moment e.disks) (silent s.now s.disks)) told alike names
+        (subst (λ (o : Option CoreFault). IsOfCluster tells (asking_script e.set s.said) (ran_at (status_by o) s.line (Some s.cluster) (silent e.moment e.disks) (silent s.now s.disks))) none ran)
+
     held : s.ended ≡ None → (session : List ℕ) (handle : ℕ) → held_at (seat_of session s.cluster.core.sessions) handle ≡ store_held (store_now (began_by e) (shown_in e s)) session handle
-    held none =
-        let ran : IsOfCluster tells (asking_script e.set s.said) (ran_at (status_by None) s.line (Some s.cluster) (silent e.moment e.disks) (silent s.now s.disks)) =
-        subst (λ (o : Option CoreFault). IsOfCluster tells (asking_script e.set s.said) (ran_at (status_by o) s.line (Some s.cluster) (silent e.moment e.disks) (silent s.now s.disks))) none cluster in
-        let on : HasItsDisks (asking_script e.set s.said) (ran_at (status_by None) s.line (Some s.cluster) (silent e.moment e.disks) (silent s.now s.disks)) =
-        its_disks tells S (ran_at (status_by None) s.line (Some s.cluster) (silent e.moment e.disks) (silent s.now s.disks)) told alike names ran in
-        held_there laws tells e s h told alike entry none on
+    held none = held_there laws tells e s h told alike entry none (its_run cluster none)
+
+    -- behind a settle all that was asked for before is answered
+    pub settled : SettlesSo → 2 * e.set.shape.shards < e.set.limits.pool → SettlesAsks s
+    settled settles room none = answered_there laws tells e s h told alike entry none (its_run cluster none) settles room
 
   pub told_by : IsTold tells e
   told_by s h = record { lawful = lawful s h; held = held s h }

@@ -1,3 +1,4 @@
+pub mod Answered
 pub mod Entry
 pub mod Kept
 pub mod Pending
