@@ -6,7 +6,8 @@ use Rattle.hs_clauses.specs.Shown.{IsBehindAtEntry}
 use Rattle.hs_clauses.specs.Stopped.{MayLosePeers}
 use Rattle.hs_journal.specs.Order.{IsOrdered}
 use Rattle.hs_kept.specs.Copied.{CopiesAndKeeps}
-use Rattle.hs_kept.specs.Kept.{FetchesAndGives, StoresAndKeeps}
+use Rattle.hs_kept.specs.Kept.{FetchesAndGives}
+use Rattle.hs_kept.specs.Stopped.{StoresAndKeeps}
 use Rattle.hs_limits.specs.declared.address.Address.{Address}
 use Rattle.hs_limits.specs.declared.shape.Shape.{Shape}
 use Rattle.hs_load.specs.Loaded.{IsLoaded}
