@@ -7,5 +7,6 @@ pub mod HandLemmas
 pub mod JoinLemmas
 pub mod JudgeLemmas
 pub mod ListLemmas
+pub mod ReachedLemmas
 pub mod ReadyLemmas
 pub mod TeamLemmas

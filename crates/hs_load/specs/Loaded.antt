@@ -8,6 +8,7 @@ use Rattle.hs_cluster.specs.Counts.{NoneFalls}
 use Rattle.hs_cluster.specs.Growing.{GoesOn}
 use Rattle.hs_taking.specs.Disks.{DiskSeen, log_at, seen_at}
 use Rattle.hs_cluster.specs.Kept.{Shows, Span}
+use Rattle.hs_cluster.specs.Resuming.{EndAsSealed}
 use Rattle.hs_cluster.specs.Running.{Running}
 use Rattle.hs_cluster.specs.declared.fault.ClusterFault.{ClusterFault}
 use Rattle.hs_cluster.specs.declared.fault.ClusterFault.TheVariants as cluster
@@ -144,9 +145,11 @@ pub data PutsSummary (writers : ℕ) (ends : List (Result WriterSum WorkFault)) 
 abbrev pub begun_at : Book → Team → List DiskSeen → ℕ → Stand
 begun_at book team left now = record { now = now; cluster = record { core = book.core; logs = team.logs; course = [] }; disks = left; line = book.core.progress.last_line }
 
--- they were run from there, to their end or to what cut one short; this is the core behind them, and these the disks
+-- they were run from there, at a moment that is not before the book's, to their end or to what cut one short; as they begin each peer that is not down has a log in use, which ends with what it is known to have sealed; this is the core behind them, and these the disks
 pub record RunsLast (tells : Type 0) (load : Load) (book : Book) (team : Team) (left new : List DiskSeen) (core : Core) (did : Result ⊤ ClusterFault) : Type 0 where
   pub now : ℕ
+  pub later : book.core.moment ≤ now
+  pub fit : EndAsSealed book.core team.logs
   pub end : Stand
   pub runs : RunsAll tells load.set.name last_lines (begun_at book team left now) end did
   pub on : ListsGoOn tells (begun_at book team left now) end

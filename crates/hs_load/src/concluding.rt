@@ -3,17 +3,20 @@ ghost use Rattle.std.specs.Prelude.{◌≡◌, ◌*◌, ◌<◌, ◌≤◌, ◌^
 ghost use Rattle.hs_book.specs.Book.{Book};
 ghost use Rattle.hs_book.specs.History.{NobodyJoins};
 ghost use Rattle.hs_cluster.specs.Resuming.{EndAsSealed};
+ghost use Rattle.hs_core_words.specs.Plain.{plain_store};
 ghost use Rattle.hs_core_words.specs.State.{Core};
 ghost use Rattle.hs_load.specs.Joined.{team_of};
 ghost use Rattle.hs_load.specs.Judged.{Load};
 ghost use Rattle.hs_load.specs.Judgement.{IsJudgedSo};
 ghost use Rattle.hs_load.specs.Loaded.{EndsWork, PutsSummary, refused_when};
+ghost use Rattle.hs_load.specs.Reached.{EachIsReached};
 ghost use Rattle.hs_taking.specs.Disks.{AreReady, seen_as};
 
 use crate::finishing::finish;
 use crate::handing::{Askers, Peers};
 use crate::judgement::{Judgement, status_of};
 use crate::outcome::{cluster_status, outcome_of};
+use crate::reaching::last_core;
 use crate::resuming::are_fit;
 use crate::summing::{summary_of, sums_of};
 use crate::tallying::has_tallied;
@@ -65,11 +68,13 @@ fn put_summary<K: Sink>(
     ends: &[Result<WriterSum, WorkFault>],
     writers: u8,
     core: &Core,
+    reached: bool,
     line: u64,
     sink: &mut K,
     watch: &mut Watch,
 ) -> Status
-    requires { line < 2 ^ 62 }
+    requires room { line < 2 ^ 62 }
+    requires reached { reached ≡ true → EachIsReached (plain_store core.now) }
     ensures puts { PutsSummary writers ends.now core.now line (record {
       ending = result;
       old = K.got sink.old;
@@ -82,7 +87,7 @@ fn put_summary<K: Sink>(
     let Ok(sums) = sums_of(alloc, ends, writers) else {
         return Status::NoMemory;
     };
-    if !has_tallied(sums.as_slice(), core, line) {
+    if !has_tallied(sums.as_slice(), core, reached, line) {
         return Status::NoMemory;
     }
     let Ok(text) = summary_of(alloc, sums.as_slice(), core) else {
@@ -151,9 +156,18 @@ pub(crate) fn conclude<A: Addresser, K: Sink, D: Disk>(
     let line = core.last_line();
     let mut cluster = Cluster::resume(alloc, core, logs);
     let did = finish(&mut cluster, naming, disks.as_mut_slice(), watch, line);
-    let (core, _logs) = cluster.into_parts();
+    let (core, reached) = last_core(alloc, cluster);
     let status = match did {
-        Ok(()) => put_summary(alloc, ends.as_slice(), writers, &core, line, sink, watch),
+        Ok(()) => put_summary(
+            alloc,
+            ends.as_slice(),
+            writers,
+            &core,
+            reached,
+            line,
+            sink,
+            watch,
+        ),
         Err(fault) => cluster_status(fault),
     };
     outcome_of(alloc, status, core, kept, stored)

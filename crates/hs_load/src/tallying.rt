@@ -1,6 +1,8 @@
 //! Whether what the last core counts is what the writers did, and the last deletions run.
 ghost use Rattle.std.specs.List.{list_any};
 ghost use Rattle.std.specs.Prelude.{◌≡◌, ◌+◌, ◌<◌, ◌^◌, sum_by, true};
+ghost use Rattle.hs_core_words.specs.Plain.{plain_store};
+ghost use Rattle.hs_load.specs.Reached.{EachIsReached};
 ghost use Rattle.hs_load.specs.Tallied.{HasTallied, begins_run, deletes, is_delete, is_deletion, runs_at};
 
 use crate::counting::roots_in;
@@ -78,15 +80,17 @@ fn are_kept(sums: &[WriterSum], roots: u64) -> bool
     left == 0
 }
 
-/// Whether a core has as many retained roots as files were kept, and its journal has the deletions of a
-/// load, of which the last two, behind a line, run. It takes no memory.
-pub(crate) fn has_tallied(sums: &[WriterSum], core: &Core, line: u64) -> bool
-    requires { line < 2 ^ 62 }
+/// Whether a core has as many retained roots as files were kept, which reach each of its blocks (`reached`),
+/// and its journal has the deletions of a load, of which the last two, behind a line, run. It takes no
+/// memory.
+pub(crate) fn has_tallied(sums: &[WriterSum], core: &Core, reached: bool, line: u64) -> bool
+    requires room { line < 2 ^ 62 }
+    requires reached { reached ≡ true → EachIsReached (plain_store core.now) }
     ensures { result ≡ true → HasTallied sums.now core.now line }
 {
     let entries = core.journal().entries();
     let deletions = entries.iter().filter(|entry| is_deletion(entry)).count();
-    if deletions != DELETIONS || !are_kept(sums, roots_in(core)) {
+    if !reached || deletions != DELETIONS || !are_kept(sums, roots_in(core)) {
         return false;
     }
     one_runs_at(line + 2, entries) && one_runs_at(line + 4, entries)
