@@ -1,1 +1,3 @@
+mod OpensLemmas
+mod StoreLemmas
 mod SumLemmas
