@@ -9,4 +9,5 @@ pub mod JudgeLemmas
 pub mod ListLemmas
 pub mod ReachedLemmas
 pub mod ReadyLemmas
+pub mod RestLemmas
 pub mod TeamLemmas

@@ -9,6 +9,7 @@ ghost use Rattle.hs_model.specs.Reach.{is_among};
 
 use hs_cluster::Cluster;
 use hs_core::Core;
+use hs_desk::CoreFault;
 use hs_limits::Address;
 use hs_model::{ModelFault, PlainBlock, PlainRoot, PlainStore, reached};
 use std::alloc::Global;
@@ -57,7 +58,8 @@ fn has_each(seen: &BTreeSet<Address>, blocks: &[PlainBlock]) -> bool
 /// Whether each block of a store is reached from its retained roots. Blocks are looked at once each.
 fn are_reached(alloc: Global, store: &PlainStore) -> Result<bool, ModelFault>
     requires { IsPlain store.now }
-    ensures { IfOk result (λ are. are ≡ true → EachIsReached (plain_of store.now)) }
+    ensures found { IfOk result (λ are. are ≡ true → EachIsReached (plain_of store.now)) }
+    ensures only { IfOk result (λ are. EachIsReached (plain_of store.now) → are ≡ true) }
 {
     let kept = kept_by_roots(alloc, store.roots.as_slice())?;
     let reached = reached(alloc, store, kept.as_slice())?;
@@ -65,19 +67,27 @@ fn are_reached(alloc: Global, store: &PlainStore) -> Result<bool, ModelFault>
     Ok(has_each(&seen, store.blocks.as_slice()))
 }
 
-/// The core of a cluster, and whether each block that it has is reached from its retained roots. The
-/// answer is no too where memory is wanting.
-pub(crate) fn last_core(alloc: Global, cluster: Cluster) -> (Core, bool)
+/// Whether each block that a core has is reached from its retained roots. The only fault is NoMemory.
+fn reaches_all(alloc: Global, core: &mut Core) -> Result<bool, CoreFault>
+    ensures found { IfOk result (λ are. are ≡ true → EachIsReached (plain_store core.old)) }
+    ensures only { IfOk result (λ are. EachIsReached (plain_store core.old) → are ≡ true) }
+    ensures same { core.new ≡ core.old }
+{
+    let store = core.plain()?;
+    match are_reached(alloc, &store) {
+        Ok(are) => Ok(are),
+        Err(_) => Err(CoreFault::NoMemory),
+    }
+}
+
+/// The core of a cluster, and whether each block that it has is reached from its retained roots. The only
+/// fault is NoMemory.
+pub(crate) fn last_core(alloc: Global, cluster: Cluster) -> (Core, Result<bool, CoreFault>)
     ensures core { result.0 ≡ cluster.core }
-    ensures reached { result.1 ≡ true → EachIsReached (plain_store result.0) }
+    ensures found { IfOk result.1 (λ are. are ≡ true → EachIsReached (plain_store result.0)) }
+    ensures only { IfOk result.1 (λ are. EachIsReached (plain_store result.0) → are ≡ true) }
 {
     let (mut core, _logs) = cluster.into_parts();
-    let reached = match core.plain() {
-        Ok(store) => match are_reached(alloc, &store) {
-            Ok(are) => are,
-            Err(_) => false,
-        },
-        Err(_) => false,
-    };
+    let reached = reaches_all(alloc, &mut core);
     (core, reached)
 }

@@ -68,7 +68,8 @@ fn one_runs_at(line: u64, entries: &[JournalEntry]) -> bool
 
 /// Whether so many files were kept.
 fn are_kept(sums: &[WriterSum], roots: u64) -> bool
-    ensures { result ≡ true → roots ≡ sum_by (λ sum. sum.kept) sums.now }
+    ensures found { result ≡ true → roots ≡ sum_by (λ sum. sum.kept) sums.now }
+    ensures only { roots ≡ sum_by (λ sum. sum.kept) sums.now → result ≡ true }
 {
     let mut left = roots;
     for sum in sums {
@@ -86,7 +87,9 @@ fn are_kept(sums: &[WriterSum], roots: u64) -> bool
 pub(crate) fn has_tallied(sums: &[WriterSum], core: &Core, reached: bool, line: u64) -> bool
     requires room { line < 2 ^ 62 }
     requires reached { reached ≡ true → EachIsReached (plain_store core.now) }
-    ensures { result ≡ true → HasTallied sums.now core.now line }
+    requires only { EachIsReached (plain_store core.now) → reached ≡ true }
+    ensures found { result ≡ true → HasTallied sums.now core.now line }
+    ensures only { HasTallied sums.now core.now line → result ≡ true }
 {
     let entries = core.journal().entries();
     let deletions = entries.iter().filter(|entry| is_deletion(entry)).count();

@@ -18,7 +18,7 @@ use Rattle.hs_journal.specs.declared.entry.JournalEntry.{JournalEntry}
 use Rattle.hs_limits.specs.declared.address.Address.{Address}
 use Rattle.hs_load.specs.Compared.{answer_of, is_own, own_answers, own_from}
 use Rattle.hs_load.specs.Judged.{AreSame, Ended, HaveWorked, IsJudged, IsTorn, Job, Load, Mismatched, Numbers, Team, TornAt, core_status, task_of}
-use Rattle.hs_load.specs.Loaded.{AreSums, Close, Cut, Empty, EndsLoad, EndsTeam, EndsWork, Full, Handed, Judged, Put, PutsSummary, RunsAll, RunsLast, Shut, Stand, Summed, Unopened, Unput, Unsummed, Unworked, Wanting, Worked, Works, begun_at, cluster_status, last_lines}
+use Rattle.hs_load.specs.Loaded.{AreSums, Close, Cut, Empty, EndsLoad, EndsTeam, EndsWork, Full, Handed, Judged, Put, PutsSummary, RunsAll, RunsLast, Shut, Stand, Summed, Unopened, Unagreed, Unfit, Unput, Unsummed, Unworked, Wanting, Worked, Works, begun_at, cluster_status, last_lines}
 use Rattle.hs_load.specs.Owners.{is_of}
 use Rattle.hs_load.specs.Tallied.{HasTallied, blocks_in, is_deletion, roots_in, runs_at}
 use Rattle.hs_load.specs.Team.{sessions_of}
@@ -140,12 +140,14 @@ module _ (tells : Type 0) (load : Load) (h : Handed) (c : Close) (done : c.endin
       where
         puts : AreSame load works.book works.team → RunsLast tells load works.book works.team works.left new works.last (Ok tt) → PutsSummary load.writers works.team.ends works.last works.book.core.progress.last_line c → DoneBy tells load before old new h c
         puts same runs (Unsummed e nothing) = absurd (cc (sym e ∙ done))
+        puts same runs (Unagreed sums are differs e nothing) = absurd (cc (sym e ∙ done))
         puts same runs (Unput sums are tallied e front risen least) = absurd (cc (sym e ∙ done))
         puts same runs (Put sums are tallied e put least) =
             record { now = now; running = running; disks = disks; opened = opened; works = works; same = same; runs = runs; sums = sums; are = are; tallied = tallied; put = put }
 
         by : EndsWork tells load works.book works.team works.left new works.last c → DoneBy tells load before old new h c
         by (Wanting e nothing same left) = absurd (cc (sym e ∙ done))
+        by (Unfit same unfit e nothing at left) = absurd (cc (sym e ∙ done))
         by (Judged rested judged nothing same left) = absurd (not_judged load works.book works.team (subst (λ s. IsJudged load works.book works.team s) done judged))
         by (Cut f same runs e nothing) = absurd (not_cluster f (sym e ∙ done))
         by (Summed same runs its) = puts same runs its
