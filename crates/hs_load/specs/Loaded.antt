@@ -184,6 +184,8 @@ pub record Works (tells : Type 0) (load : Load) (start : Core) (slots : List (Op
   pub team : Team
   pub last : Core
   pub left : List DiskSeen
+  -- there is a disk for each peer
+  pub count : length disks ≡ start.members.shape.shards * start.members.shape.copies
   pub led : IsBook start book
   pub worked : HaveWorked tells (task_of load) slots disks left team
   pub stored : HaveStored tells slots disks left team

@@ -1,11 +1,12 @@
 -- A load over disks that tell their contents, whose lists are sound, opens soundly.
-use Rattle.std.proofs.Common.{◌≡◌, ◌∙◌, refl, sym, ap, subst, length, inl, inr, ℕ, zero, suc, ◌+◌, ◌<◌, ◌≤◌, Bool, true, false, List, [], ◌∷◌, Option, Some, None, map, arith}
+use Rattle.std.proofs.Common.{◌≡◌, ◌∙◌, refl, sym, ap, subst, length, inl, inr, ℕ, zero, suc, ◌+◌, ◌<◌, ◌≤◌, Bool, true, false, List, [], ◌∷◌, Option, Some, None, Ok, map, arith}
 use Rattle.std.proofs.lemmas.Bool.{cases_lt, false≢true}
 use Rattle.std.proofs.lemmas.List.{get_or-map, get_or_past, length-map}
 use Rattle.std.specs.List.{AllByRecursion, list_any, range_with_len}
 use Rattle.std.specs.Prelude.{IsSome, drop, if◌then◌else◌, slice_index_or, take, unwrap_or}
 use Rattle.hs_clauses.proofs.AsideLemmas.{some_good}
 use Rattle.hs_clauses.proofs.ReadLemmas.{BringsAll, applied_all, from_empty, read_brings, read_from_one}
+use Rattle.hs_cluster.specs.Calls.{outcome_by}
 use Rattle.hs_cluster.specs.Opens.{Finds}
 use Rattle.hs_core_words.specs.State.{Core}
 use Rattle.hs_desk.specs.declared.fault.CoreFault.{CoreFault}
@@ -138,6 +139,11 @@ same_logs (x ∷ xs) (y ∷ ys) long each =
     let first : x ≡ y = each 0 (omega arith) in
     let rest : xs ≡ ys = same_logs xs ys (omega (arith, long)) (λ k low. each (suc k) (omega (arith, low))) in
     λ i. first i ∷ rest i
+
+-- a core that is told to go on does
+pub still_goes : (o : Option CoreFault) → Ok tt ≡ outcome_by o → o ≡ None
+still_goes None e = refl
+still_goes (Some fault) e = absurd (cc e)
 
 pub still_none : (core : Core) (es : Events) → (steps core es).ended ≡ None → core.ended ≡ None
 still_none core es going = by core.ended refl

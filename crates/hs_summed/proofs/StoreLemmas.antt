@@ -42,7 +42,7 @@ use Rattle.hs_standing.proofs.FirstRoomLemmas.{first_room}
 use Rattle.hs_standing.proofs.TakenLemmas.{FoldsInMemory}
 use Rattle.hs_standing.specs.Answered.{KeepsRecordRoom}
 use Rattle.hs_standing.specs.Opening.{OpensSoundly, opened_folds}
-use Rattle.hs_summed.proofs.OpensLemmas.{opens_soundly, opens_with_entry, still_none}
+use Rattle.hs_summed.proofs.OpensLemmas.{opens_soundly, opens_with_entry, still_goes, still_none}
 use Rattle.hs_summed.proofs.SumLemmas.{DoneBy, sums_up}
 use Rattle.hs_summed.specs.Store.{LeavesStore, SumsUpStore}
 use Rattle.hs_taking.specs.Disks.{DiskSeen}
@@ -76,10 +76,6 @@ room_of_book c [] few may = few
 room_of_book c (e ∷ es) few may = room_of_book (step e.0 e.1 c) es may.0.room may.1
 
 -- ---- the last lines
-
-still_goes : (o : Option CoreFault) → Ok tt ≡ outcome_by o → o ≡ None
-still_goes None e = refl
-still_goes (Some fault) e = absurd (cc e)
 
 module _ (tells : Type 0) (name : List ℕ → Address) where
   abbrev Runs : List Command → Stand → Stand → Type 0

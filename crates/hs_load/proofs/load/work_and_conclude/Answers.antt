@@ -30,9 +30,11 @@ returns-clause-team g c = λ shape.
       | in-Ok-judge w ↦ subst (λ (j : Judgement). IsJudgedSo load has.book team j) (sym w.judgement-is) (w.in-Ok-judge.ensures load c.args.core has.book (c.as_slice.ensures.value ∙ c.in-Ok.ensures) has.kept)
       | in-Err-judge w ↦ subst (λ (j : Judgement). IsJudgedSo load has.book team j) (sym w.judgement-is) tt
     ] in
+    let many : length (map seen c.args.disks.now.items) ≡ c.args.core.members.shape.shards * c.args.core.members.shape.copies
+    = length-map c.args.disks.now.items seen ∙ (let ok = c.args.disks.now.ok.0 in (omega (arith, ok))) ∙ c.requires.shape in
     let rests : has.book.ended ≡ None → MayGoOn has.book.core (length joined.peers.logs.items) (vec_len c.work_and_join.new.disks) c.work_and_join.new.watch
     = may_go_on c.args.core has.book (length joined.peers.logs.items) (vec_len c.work_and_join.new.disks) c.work_and_join.new.watch has.kept.is
-    (has.worked.logs ∙ length-map c.args.disks.now.items seen ∙ (let ok = c.args.disks.now.ok.0 in (omega (arith, ok)))  ∙ c.requires.shape)
+    (has.worked.logs ∙ many)
     (c.in-Ok-work_and_join.ensures.count ∙ c.requires.shape)
     (let up = c.work_and_join.ensures.ticks in let low = c.requires.moment in omega (arith, up, low)) in
     let ends = c.conclude.ensures.ends load has.book refl refl has.kept.core rests so in
@@ -41,6 +43,7 @@ returns-clause-team g c = λ shape.
       team = team;
       last = ends.0;
       left = map seen c.work_and_join.new.disks.items;
+      count = many;
       led = has.kept.is;
       worked = has.worked;
       stored = all_stored g.D.Disk.tells _ c.args.logs.items (map seen c.args.disks.now.items) (map seen c.work_and_join.new.disks.items) team has.worked;
