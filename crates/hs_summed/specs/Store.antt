@@ -27,6 +27,7 @@ use Rattle.hs_sound.specs.Stay.{AreSoundAlong}
 use Rattle.hs_standing.specs.Held.{GivesAddresses}
 use Rattle.hs_standing.specs.Lists.{whole_from}
 use Rattle.hs_standing.specs.Opening.{opened_folds, opened_lists}
+use Rattle.hs_summed.specs.Fit.{FitsLoaded}
 use Rattle.hs_summed.specs.Summed.{SumsUp}
 use Rattle.hs_taking.specs.Disks.{DiskSeen, seen_at}
 
@@ -53,7 +54,8 @@ pub record SumsUpStore (tells : Type 0) (load : Load) (before : ℕ) (old : List
   pub leaves : tells → GivesAddresses load.set.name → AreSoundAlong load.set (whole_from (opened_lists load.set found) 0 load.set.shape.shards)
       → LeavesStore load.set.limits (hollow (store_with (opened_folds load.set found) [])) h.journal (blocks_in sums.last) (roots_in sums.last)
 
--- a load went so, and where it is done it has summed up its store
+-- a load went so; its last lines were begun, but for a cause; and where it is done it has summed up its store
 pub record LoadsStore (tells : Type 0) (name : List ℕ → Address) (shape : Shape) (seed writers files : ℕ) (r : Ran) : Type 0 where
   pub loaded : IsLoaded tells name shape seed writers files r
+  pub fits : FitsLoaded tells name shape seed writers files r loaded
   pub store : r.ending ≡ status.Done → SumsUpStore tells (load_of name shape seed writers files) r.old.moment loaded.old (handed_of r) (close_of r)

@@ -6,6 +6,7 @@ ghost use Rattle.hs_load.specs.Loaded.{IsLoaded};
 ghost use Rattle.hs_promise.specs.Run.{Ran};
 ghost use Rattle.hs_summed.specs.Store.{LoadsStore};
 
+use crate::a_load_begins_its_last_lines;
 use hs_deeds::a_history_is_its_deeds;
 use hs_memory::catalogues_in_memory_are_folds;
 use hs_ports::Disk;
@@ -18,6 +19,7 @@ pub fn a_done_load_leaves_its_store<D: Disk>()
         → IsLoaded D.tells name shape seed writers files r
         → LoadsStore D.tells name shape seed writers files r }
 {
+    a_load_begins_its_last_lines::<D>();
     a_history_is_its_deeds();
     catalogues_in_memory_are_folds();
 }
