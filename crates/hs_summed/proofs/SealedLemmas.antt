@@ -1,11 +1,11 @@
 -- What a core knows a peer to have sealed behind the events of a book: the last number that was reported of it.
-use Rattle.std.proofs.Common.{◌≡◌, ◌≢◌, ◌∙◌, ◌⊎◌, inl, inr, sym, ap, subst, refl, ℕ, zero, suc, ◌+◌, ◌-◌, ◌<◌, ◌≤◌, ◌==◌, ◌++◌, Bool, true, false, List, [], ◌∷◌, length, take, drop, map, Option, Some, None, is_none, if◌then◌else◌, arith}
-use Rattle.std.proofs.lemmas.Bool.{cases_eq, ne_eqb}
+use Rattle.std.proofs.Common.{◌≡◌, ◌≢◌, ◌∙◌, ◌⊎◌, inl, inr, sym, ap, subst, refl, ℕ, zero, suc, ◌+◌, ◌-◌, ◌<◌, ◌≤◌, ◌==◌, ◌++◌, Bool, true, false, List, [], ◌∷◌, length, take, drop, map, Option, Some, None, is_none, if◌then◌else◌, eqb-true, arith}
+use Rattle.std.proofs.lemmas.Bool.{cases_eq, eq-eqb, ne_eqb}
 use Rattle.std.specs.List.{enumerate_from, range_with_len}
 use Rattle.std.specs.Option.{option_map, option_map_or}
 use Rattle.std.specs.Prelude.{slice_get}
 use Rattle.hs_anatomy.proofs.StepLemmas.{step_is}
-use Rattle.hs_anatomy.specs.Acts.{begun}
+use Rattle.hs_anatomy.specs.Acts.{begun, without_job}
 use Rattle.hs_book.proofs.CalmLemmas.{nobody_joins}
 use Rattle.hs_book.specs.Events.{AreBookSteps, IsBookEvent}
 use Rattle.hs_book.specs.History.{NobodyJoins}
@@ -17,10 +17,12 @@ use Rattle.hs_core_copies.proofs.JobLemmas.{AppendsFirst, FirstTask, ReadsFirst,
 use Rattle.hs_core_copies.proofs.ReportLemmas.{IsQueued, found, queued_disk, queued_first}
 use Rattle.hs_core_copies.specs.InStep.{IsInStep, IsOf}
 use Rattle.hs_core_copies.specs.Jobs.{unsealed}
+use Rattle.hs_core_words.specs.Changing.{note}
 use Rattle.hs_core_words.specs.declared.event.Event.{Event}
 use Rattle.hs_core_words.specs.declared.event.Event.TheVariants as event
 use Rattle.hs_core_words.specs.declared.task.Task.{Task}
 use Rattle.hs_core_words.specs.Looking.{first_task, group_of, home, sealed_of, status_of}
+use Rattle.hs_core_words.specs.Reporting.{on_report}
 use Rattle.hs_core_words.specs.State.{Core}
 use Rattle.hs_core_words.specs.Step.{do_event, end_event, step}
 use Rattle.hs_desk.specs.Answers.{answers}
@@ -32,11 +34,14 @@ use Rattle.hs_desk.specs.declared.job.Job.TheVariants as job
 use Rattle.hs_entry.specs.declared.entry.Entry.{Entry}
 use Rattle.hs_events.specs.Course.{steps}
 use Rattle.hs_events.specs.Due.{Events, is_answer}
+use Rattle.hs_journal.specs.declared.entry.Who.TheVariants as who
 use Rattle.hs_limits.specs.Shape.{IsShape}
 use Rattle.hs_limits.specs.declared.limits.PeerStatus.{PeerStatus}
 use Rattle.hs_limits.specs.declared.limits.PeerStatus.TheVariants.{Down, Good, Joining}
 use Rattle.hs_limits.specs.declared.shape.Shape.{Shape}
 use Rattle.hs_members.specs.Members.{IsPeer, is_joining}
+use Rattle.hs_model.specs.declared.deed.Deed.TheVariants as deed
+use Rattle.hs_model.specs.declared.reply.Reply.TheVariants as reply
 use Rattle.hs_quiet.specs.Keeping.{AreInStep}
 use Rattle.hs_replica.specs.Group.{Group, copy_of, entries_above, length_of}
 use Rattle.hs_steady.proofs.FaresLemmas.{Fares, Left, Off, falls_down, leaves_end, untold_fares}
@@ -82,11 +87,8 @@ counted_at (x ∷ xs) (suc k) a = counted_at xs k a.1
 -- a front of what is left of numbered entries
 above_one : (n k from : ℕ) (entries : List Entry) (first : ℕ × Entry) (others : List (ℕ × Entry)) → take n (drop k (enumerate_from (from + 1) entries)) ≡ first ∷ others → 1 ≤ first.0
 above_one zero k from entries first others e = let wrong : [] ≡ first ∷ others = e in absurd (cc wrong)
-above_one (suc n) k from [] first others e = absurd (none k e)
-  where
-    none : (k : ℕ) → take (suc n) (drop k {A = ℕ × Entry} []) ≡ first ∷ others → ⊥
-    none zero e = let wrong : [] ≡ first ∷ others = e in cc wrong
-    none (suc k) e = let wrong : [] ≡ first ∷ others = e in cc wrong
+above_one (suc n) zero from [] first others e = let wrong : [] ≡ first ∷ others = e in absurd (cc wrong)
+above_one (suc n) (suc k) from [] first others e = let wrong : [] ≡ first ∷ others = e in absurd (cc wrong)
 above_one (suc n) zero from (x ∷ xs) first others e =
     let same : (from + 1, x) ≡ first = cc e in
     let number : from + 1 ≡ first.0 = ap (λ (y : ℕ × Entry). y.0) same in
@@ -126,7 +128,7 @@ module _ (p at : ℕ) (c : Core) (g : ℕ) (s : Copies Entry) (st : IsInStep g c
     seals_one number a (AppendsFirst one others behind all is left j) = let wrong : false ≡ true = sym (ap (λ (x : Job). answers p x (done.Sealed number)) is) ∙ a in absurd (cc wrong)
     seals_one number a (SealsFirst one others all is j) =
         let same : (number == one.0) ≡ true = sym (ap (λ (x : Job). answers p x (done.Sealed number)) is) ∙ a in
-        let number_is : number ≡ one.0 = grind arith in
+        let number_is : number ≡ one.0 = eqb-true number one.0 same in
         let low : 1 ≤ one.0 = above_one _ _ (group_of g c).front (group_of g c).waiting one others all in
         omega (arith, number_is, low)
 
@@ -136,6 +138,9 @@ module _ (p at : ℕ) (c : Core) (g : ℕ) (s : Copies Entry) (st : IsInStep g c
     no_other d read append seal a (AppendsFirst one others behind all is left j) = let wrong : false ≡ true = sym (append one.0 one.1) ∙ sym (ap (λ (x : Job). answers p x d) is) ∙ a in cc wrong
     no_other d read append seal a (SealsFirst one others all is j) = let wrong : false ≡ true = sym (seal one.0) ∙ sym (ap (λ (x : Job). answers p x d) is) ∙ a in cc wrong
 
+    fails_is : (b : Core) → first_task p b ≡ Some task → answers p task.job (done.Failed p) ≡ true → status_of p (on_report p (done.Failed p) b) ≡ Down
+    fails_is b f a = rw (f, a) (falls_down p (note who.Store deed.Nothing (reply.Down p (without_job p b).progress.event_line) (without_job p b)))
+
     -- a peer whose disk failed is down
     failed_down : (disk : ℕ) → answers p task.job (done.Failed disk) ≡ true → status_of p (step (event.Report p (done.Failed disk)) at c) ≡ Down
     failed_down disk a =
@@ -143,7 +148,7 @@ module _ (p at : ℕ) (c : Core) (g : ℕ) (s : Copies Entry) (st : IsInStep g c
         subst (λ (k : ℕ). status_of p (step (event.Report p (done.Failed k)) at c) ≡ Down) (sym same)
         (ap (λ (x : Core). status_of p x) (step_is (event.Report p (done.Failed p)) at c going)
         ∙ (leaves_end p (do_event (event.Report p (done.Failed p)) (begun (event.Report p (done.Failed p)) at c))).status
-        ∙ rw (first, subst (λ (k : ℕ). answers p task.job (done.Failed k) ≡ true) same a) (falls_down p _))
+        ∙ fails_is (begun (event.Report p (done.Failed p)) at c) first (subst (λ (k : ℕ). answers p task.job (done.Failed k) ≡ true) same a))
 
     own_tells : (d : Done) → answers p task.job d ≡ true → status_of p (step (event.Report p d) at c) ≡ Good → Tells p c (step (event.Report p d) at c) (stored_by d)
     own_tells (done.Stored number) a good = let l = work_told g p (done.Stored number) at c s st own going task first a tt in record { up = queued.good; sealed = l.work.sealed; some = tt }
@@ -180,7 +185,7 @@ module _ (p at : ℕ) (c : Core) (g : ℕ) (s : Copies Entry) (st : IsInStep g c
   ]
     where
       same_numbers : (d : Done) → numbers_of p (event.Report p d) ≡ stored_by d
-      same_numbers d = ap (λ (b : Bool). if b then stored_by d else []) (grind arith)
+      same_numbers d = ap (λ (b : Bool). if b then stored_by d else []) (eq-eqb p p refl)
   one_tells (event.Deliver line number) may good = other_tells (event.Deliver line number) (λ d is. let wrong : event.Deliver line number ≡ event.Report p d = is in absurd (cc wrong)) good
   one_tells (event.Turn line q) may good = absurd may
   one_tells (event.Lose line number) may good = absurd may
