@@ -19,11 +19,11 @@ abbrev pub team_of : Peers → Askers → Team
 team_of peers askers = record { stored = peers.stored.items; stops = peers.stops.items; logs = peers.logs.items; kept = askers.kept.items; ends = askers.ends.items }
 
 -- a core that goes on, of which nobody joins, with a place for the log of each of its peers and a disk of each, at a moment that is not before its own
-pub record MayGoOn (core : Core) (logs disks now : ℕ) : Type 0 where
+pub record MayGoOn (core : Core) (slots count now : ℕ) : Type 0 where
   pub going : core.ended ≡ None
   pub calm : NobodyJoins core
-  pub logs : logs ≡ core.members.shape.shards * core.members.shape.copies
-  pub disks : disks ≡ core.members.shape.shards * core.members.shape.copies
+  pub logs : slots ≡ core.members.shape.shards * core.members.shape.copies
+  pub disks : count ≡ core.members.shape.shards * core.members.shape.copies
   pub moment : core.moment ≤ now
 
 -- where the numbers of a peer part from those that the book has

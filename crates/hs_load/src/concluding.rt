@@ -1,5 +1,5 @@
 //! What a load does behind the joins.
-ghost use Rattle.std.specs.Prelude.{◌≡◌, ◌*◌, ◌<◌, ◌≤◌, ◌^◌, [], None, length, map, true, vec_len};
+ghost use Rattle.std.specs.Prelude.{◌≡◌, ◌*◌, ◌<◌, ◌≤◌, ◌^◌, [], None, length, map, true, vec_len, IfOk};
 ghost use Rattle.hs_book.specs.Book.{Book};
 ghost use Rattle.hs_book.specs.History.{NobodyJoins};
 ghost use Rattle.hs_cluster.specs.Resuming.{EndAsSealed};

@@ -1,6 +1,7 @@
 -- The logs behind the joins of a load fit what its core knows to be sealed.
 use Rattle.std.proofs.Common.{◌≡◌, ◌∙◌, ◌⊎◌, inl, inr, sym, ap, subst, refl, ℕ, zero, suc, ◌+◌, ◌-◌, ◌*◌, ◌^◌, ◌<◌, ◌≤◌, ◌==◌, ◌&&◌, ◌||◌, ◌++◌, Bool, true, false, not, nat_lt, List, [], ◌∷◌, length, Option, Some, None, Result, Ok, Err, is_none, if◌then◌else◌, arith}
 use Rattle.std.proofs.lemmas.Bool.{cases_lt, false≢true}
+use Rattle.std.proofs.lemmas.List.{length-take-le}
 use Rattle.std.proofs.lemmas.List.Elements.{All-get_or}
 use Rattle.std.specs.List.{list_any, range_with_len}
 use Rattle.std.specs.Option.{IsSomeAnd}
@@ -11,7 +12,7 @@ use Rattle.hs_book.specs.Calls.{is_out_of_memory}
 use Rattle.hs_book.specs.History.{History, NobodyJoins}
 use Rattle.hs_book.specs.Reports.{numbers_along}
 use Rattle.hs_cluster.proofs.GoingOnLemmas.{opens_found}
-use Rattle.hs_cluster.proofs.HeldLemmas.{last_sealed}
+use Rattle.hs_cluster.proofs.HeldLemmas.{last_numbered}
 use Rattle.hs_cluster.proofs.StretchLemmas.{runs_core, steps_shape}
 use Rattle.hs_cluster.proofs.TakenLemmas.{home_within}
 use Rattle.hs_cluster.specs.Begins.{HasOpened}
@@ -196,7 +197,7 @@ module _ (laws : Laws) (tells : Type 0) (load : Load) (span : Span) (running : R
       let fits : floor whole p ≤ length (reach whole p) = subst (λ (l : Numbered). floor whole p ≤ length l) (sym reach_is) held in (
         has.keeping,
         has.used,
-        ap (λ (r : Rank). r.number) has.has.kept.rank ∙ last_sealed whole p fits has.has.kept.numbered ∙ floor_good whole p up ∙ ap (λ (c : Core). sealed_of p c) core_is,
+        ap (λ (r : Rank). r.number) has.has.kept.rank ∙ last_numbered (sealed_front whole p) has.has.kept.numbered ∙ length-take-le (floor whole p) (reach whole p) fits ∙ floor_good whole p up ∙ ap (λ (c : Core). sealed_of p c) core_is,
       )
 
   module _ (disks left : List DiskSeen) (book : Book) (team : Team) (led : History running.core book) (worked : HaveWorked tells (task_of load) running.logs disks left team) (same : AreSame load book team)
