@@ -94,7 +94,7 @@ module _ (start : Start) (core : Core) (cs : List Folded) (its : RunStands start
   abbrev pub code_for : Events → Code
   code_for events = record { name = start.set.name; base = base_of its.lawful.lawful.history; table = table_of events }
 
-  stands_coded : (events : Events) → Steady (code_for events) start.set.limits core
+  pub stands_coded : (events : Events) → Steady (code_for events) start.set.limits core
   stands_coded events = record {
     coded = core;
     beside = beside_itself (code_for events) core idle;
@@ -106,7 +106,7 @@ module _ (start : Start) (core : Core) (cs : List Folded) (its : RunStands start
   }
 
 -- no line was begun as it opens
-none_begun : (core : Core) → IsInTurn (λ n. None) core → (line : ℕ) (w : Waiting) → operation_of line core ≡ Some w → ⊥
+pub none_begun : (core : Core) → IsInTurn (λ n. None) core → (line : ℕ) (w : Waiting) → operation_of line core ≡ Some w → ⊥
 none_begun core turn line w at = cc (turn.turns.asked line w.operation.op (ap (λ (y : Option Waiting). option_map (λ (u : Waiting). u.operation.op) y) at)).named
 
 -- ---- one event

@@ -1,14 +1,12 @@
 -- What a core tells from its opening on is deeds, whatever events come.
-use Rattle.std.proofs.Common.{◌≡◌, ◌∙◌, sym, ap, subst, ℕ, ◌++◌, List, [], ◌∷◌, map, Option, Some, None, refl, arith, append_assoc}
+use Rattle.std.proofs.Common.{◌≡◌, ◌∙◌, sym, ap, subst, ℕ, ◌++◌, List, [], ◌∷◌, map, Option, Some, None, refl, append_assoc}
 use Rattle.std.specs.Option.{option_map}
 use Rattle.hs_answered.specs.Standing.{store_with}
 use Rattle.hs_any_events.proofs.AlongLemmas.{LawsBelow, code_for}
-use Rattle.hs_any_events.proofs.CodedHistoryLemmas.{base_is_above, base_of}
 use Rattle.hs_any_events.proofs.CodedLemmas.{Code, coded_gives, coded_name}
-use Rattle.hs_any_events.proofs.CodedOpeningLemmas.{beside_itself, steady_coded}
+use Rattle.hs_any_events.proofs.AlongLemmas.{none_begun, stands_coded}
 use Rattle.hs_any_events.proofs.CodedTableLemmas.{table_of, table_whole, brought_by}
 use Rattle.hs_any_events.proofs.CodedWalkLemmas.{IsCodedSteady}
-use Rattle.hs_any_events.proofs.SteadyLemmas.{IsSteady}
 use Rattle.hs_any_events.specs.Events.{ComesNext, any_lines}
 use Rattle.hs_awaiting.specs.declared.waiting.Waiting.{Waiting}
 use Rattle.hs_core_words.specs.Looking.{operation_of}
@@ -43,53 +41,14 @@ use Rattle.hs_model.specs.Hollow.{hollow}
 use Rattle.hs_model.specs.Store.{Store}
 use Rattle.hs_standing.proofs.AlongWalkLemmas.{steps_over}
 use Rattle.hs_standing.proofs.LegalOpenLemmas.{folds_valid, opened}
-use Rattle.hs_standing.proofs.ValidLemmas.{told_valid}
 use Rattle.hs_standing.specs.Copies.{AllComeOn}
 use Rattle.hs_standing.specs.Held.{GivesAddresses}
 use Rattle.hs_standing.specs.Opens.{MayOpen}
 use Rattle.hs_standing.specs.Run.{RunStands}
-use Rattle.hs_standing.specs.Standing.{judging_of}
 use Rattle.hs_standing.specs.Start.{Start}
-use Rattle.hs_standing.specs.Telling.{told_so_far}
 use Rattle.hs_told.proofs.OpenedLemmas.{opened_turn}
 use Rattle.hs_told.proofs.OrderLemmas.{step_turn}
 use Rattle.hs_told.specs.InTurn.{AllMayCome, IsInTurn, MayBegin}
-
--- ---- as a core opens
-
-module _ (start : Start) (core : Core) (cs : List Folded) (its : RunStands start core cs) (valid : IsValid start.entry) (idle : (line : ℕ) (w : Waiting) → operation_of line core ≡ Some w → ⊥) where
-  abbrev nobody : ℕ → Option Command
-  nobody n = None
-
-  abbrev stands_steady : IsSteady start.set.name start.set.limits core.progress.last_line core cs
-  stands_steady = record {
-    commands = nobody;
-    none_above = λ line up. refl;
-    limited = its.limits;
-    orderly = its.orderly;
-    lawful = its.lawful;
-    sent = its.sent;
-    resting = its.resting;
-    stored = its.stored;
-    addressed = its.addressed;
-    commanded = λ line w at. absurd (idle line w at);
-    epochs = its.epochs;
-    valid = told_valid (judging_of start) start.entry (told_so_far core) (store_with cs core.sessions) valid its.tells;
-  }
-
-  stands_coded : (events : Events) → IsCodedSteady (code_for start core cs its valid idle events) start.set.limits core.progress.last_line core
-  stands_coded events = record {
-    coded = core;
-    beside = beside_itself (code_for start core cs its valid idle events) core idle;
-    steady = (
-      cs,
-      steady_coded (code_for start core cs its valid idle events) core idle start.set.limits core.progress.last_line cs stands_steady
-          (base_is_above its.lawful.lawful.history (base_of its.lawful.lawful.history) (omega arith)),
-    );
-  }
-
-none_begun : (core : Core) → IsInTurn (λ n. None) core → (line : ℕ) (w : Waiting) → operation_of line core ≡ Some w → ⊥
-none_begun core turn line w at = cc (turn.turns.asked line w.operation.op (ap (λ (y : Option Waiting). option_map (λ (u : Waiting). u.operation.op) y) at)).named
 
 -- ---- along events
 
