@@ -139,7 +139,7 @@ line_rises (event.Nudge line peer) core next = omega arith
 line_rises (event.Fail line peer) core next = omega arith
 line_rises (event.Start line peer) core next = omega arith
 
-line_more : (code : Code) (limits : Limits) (c : Core) → Steady code limits c → (e : Event) → IsNextLine c e → IsCodedSteady code limits (last_line_after e c) c
+pub line_more : (code : Code) (limits : Limits) (c : Core) → Steady code limits c → (e : Event) → IsNextLine c e → IsCodedSteady code limits (last_line_after e c) c
 line_more code limits c s e next = record {
   coded = s.coded;
   beside = s.beside;
@@ -147,7 +147,7 @@ line_more code limits c s e next = record {
 }
 
 -- what each report may tell
-any_report : (peer : ℕ) (d : Done) (core : Core) → MayReport (λ number bytes w c. Unit {0}) peer d core
+pub any_report : (peer : ℕ) (d : Done) (core : Core) → MayReport (λ number bytes w c. Unit {0}) peer d core
 any_report peer (done.Stored number) core = tt
 any_report peer (done.Sealed number) core = tt
 any_report peer (done.Bytes number bytes) core = λ w r. tt
@@ -163,7 +163,7 @@ IsWithin code addresses = (a : Address) → Member a addresses → Member a code
 
 module _ (code : Code) (limits : Limits) (core : Core) (its : Steady code limits core) where
   -- a line above the last one is new
-  new_line : (line : ℕ) → core.progress.last_line < line → operation_of line core ≡ None
+  pub new_line : (line : ℕ) → core.progress.last_line < line → operation_of line core ≡ None
   new_line line up = coded_new code limits core.progress.last_line core its line (by_operation (operation_of line its.coded) refl)
     where
       by_operation : (x : Option Waiting) → operation_of line its.coded ≡ x → operation_of line its.coded ≡ None
