@@ -94,7 +94,7 @@ module _ (start : Start) (core : Core) (cs : List Folded) (its : RunStands start
   abbrev pub code_for : Events → Code
   code_for events = record { name = start.set.name; base = base_of its.lawful.lawful.history; table = table_of events }
 
-  pub stands_coded : (events : Events) → Steady (code_for events) start.set.limits core
+  stands_coded : (events : Events) → Steady (code_for events) start.set.limits core
   stands_coded events = record {
     coded = core;
     beside = beside_itself (code_for events) core idle;
@@ -106,7 +106,7 @@ module _ (start : Start) (core : Core) (cs : List Folded) (its : RunStands start
   }
 
 -- no line was begun as it opens
-pub none_begun : (core : Core) → IsInTurn (λ n. None) core → (line : ℕ) (w : Waiting) → operation_of line core ≡ Some w → ⊥
+none_begun : (core : Core) → IsInTurn (λ n. None) core → (line : ℕ) (w : Waiting) → operation_of line core ≡ Some w → ⊥
 none_begun core turn line w at = cc (turn.turns.asked line w.operation.op (ap (λ (y : Option Waiting). option_map (λ (u : Waiting). u.operation.op) y) at)).named
 
 -- ---- one event
@@ -233,22 +233,22 @@ module _ (below : LawsBelow) (set : Setting) (found : Found) (cs : List Folded) 
   valid_of = folds_valid set.name (new_core set.shape set.limits (opens_with set found) found.opened) cs may.lawful
 
   -- payloads tell the addresses that these events bring
-  abbrev code_of : Events → Code
+  abbrev pub code_of : Events → Code
   code_of es = code_for start_of opens its_of.0 its_of.1 valid_of (none_begun opens turn_of) es
 
   given_of : (es : Events) → GivesAddresses (coded_name (code_of es))
   given_of es = coded_gives (code_of es) names (table_whole es)
 
+  pub first_of : (table : Events) → Steady (code_of table) set.limits (first_core set found)
+  first_of table = stands_coded start_of opens its_of.0 its_of.1 valid_of (none_begun opens turn_of) table
+
   -- behind events whose addresses are among them it is steady
   behind_of : (table es : Events) → AllComeOn ComesNext opens es → IsWithin (code_of table) (table_of es) → Steady (code_of table) set.limits (steps opens es)
   behind_of table es come within = go opens.ended refl
     where
-      first_of : Steady (code_of table) set.limits opens
-      first_of = stands_coded start_of opens its_of.0 its_of.1 valid_of (none_begun opens turn_of) table
-
       go : (o : Option CoreFault) → opens.ended ≡ o → Steady (code_of table) set.limits (steps opens es)
-      go (Some fault) over = subst (λ (x : Core). Steady (code_of table) set.limits x) (sym (steps_ended opens es fault over)) first_of
-      go None going = all_steady below (code_of table) (given_of table) set.limits es opens (turn_of.going going) turn_of.told (all_within (code_of table) es opens come within) first_of
+      go (Some fault) over = subst (λ (x : Core). Steady (code_of table) set.limits x) (sym (steps_ended opens es fault over)) (first_of table)
+      go None going = all_steady below (code_of table) (given_of table) set.limits es opens (turn_of.going going) turn_of.told (all_within (code_of table) es opens come within) (first_of table)
 
   module _ (laws : CountLaws) (zeros : ZerosBehind) where
     pub copies_right : (es : Events) → AllComeOn ComesNext opens es → (n : ℕ) → AreCountedRight (steps opens (take n es))
