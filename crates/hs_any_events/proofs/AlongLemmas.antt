@@ -106,7 +106,7 @@ module _ (start : Start) (core : Core) (cs : List Folded) (its : RunStands start
   }
 
 -- no line was begun as it opens
-none_begun : (core : Core) → IsInTurn (λ n. None) core → (line : ℕ) (w : Waiting) → operation_of line core ≡ Some w → ⊥
+pub none_begun : (core : Core) → IsInTurn (λ n. None) core → (line : ℕ) (w : Waiting) → operation_of line core ≡ Some w → ⊥
 none_begun core turn line w at = cc (turn.turns.asked line w.operation.op (ap (λ (y : Option Waiting). option_map (λ (u : Waiting). u.operation.op) y) at)).named
 
 -- ---- one event
@@ -223,13 +223,13 @@ module _ (below : LawsBelow) (set : Setting) (found : Found) (cs : List Folded) 
   abbrev opens : Core
   opens = first_core set found
 
-  turn_of : IsInTurn (λ line. None) (first_core set found)
+  pub turn_of : IsInTurn (λ line. None) (first_core set found)
   turn_of = opened_turn (λ line. None) set.shape set.limits (opens_with set found) found.opened refl
 
-  its_of : (after : List Folded) × RunStands start_of (first_core set found) after
+  pub its_of : (after : List Folded) × RunStands start_of (first_core set found) after
   its_of = opened below.views below.steps below.laws (any_lines set) names set.shape (opens_with set found) found.opened cs may
 
-  valid_of : IsValid (store_with cs [])
+  pub valid_of : IsValid (store_with cs [])
   valid_of = folds_valid set.name (new_core set.shape set.limits (opens_with set found) found.opened) cs may.lawful
 
   -- payloads tell the addresses that these events bring
