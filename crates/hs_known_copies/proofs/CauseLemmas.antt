@@ -7,11 +7,11 @@ use Rattle.std.specs.Option.{option_map_or}
 use Rattle.std.specs.Prelude.{if◌then◌else◌, slice_index_or, slice_set}
 use Rattle.hs_anatomy.proofs.EventLemmas.{acts_keep, does_acts}
 use Rattle.hs_anatomy.proofs.StepLemmas.{step_is}
-use Rattle.hs_anatomy.specs.Acts.{Act, Aside, Asks, ByCopying, ByEmptying, Copies as CopiesIt, Empties, Enters, Falls, FindsDown, Gets, Goes, Hands, Hears, IsAnswered, IsAside, IsBehind, IsComing, IsFalling, IsLevel, Joins, Loses, Opens, Refuses, Repeats, Reports, Resends, Seals, SendsRound, Starts, Takes, TakesEffect, TellsDown, Views, begun, emptied_by, copied_by, fallen, joined, sealed_by, without_job}
+use Rattle.hs_anatomy.specs.Acts.{Act, Aside, Asks, ByCopying, ByEmptying, Copies as CopiesIt, Empties, Enters, Falls, FindsDown, Gets, Goes, Hands, Hears, IsAnswered, IsAside, IsBehind, IsComing, IsFalling, IsLevel, Joins, Loses, Opens, Refuses, Repeats, Reports, Resends, Seals, SendsRound, Starts, Takes, TakesEffect, TellsDown, Views, begun, fallen, joined, sealed_by, without_job}
 use Rattle.hs_anatomy.specs.Effect.{Class, OfBase, OfEnter, OfLine, OfRound, OfView, class_of, done_by, taken, tells_class, told_at_once}
 use Rattle.hs_awaiting.specs.declared.wait.Wait.TheVariants as wait
 use Rattle.hs_awaiting.specs.declared.waiting.Waiting.{Waiting}
-use Rattle.hs_awaiting.specs.Words.{change_if, change_with, each, ◌▸◌}
+use Rattle.hs_awaiting.specs.Words.{change_if, change_with, each}
 use Rattle.hs_copies.specs.Machine.{Copies}
 use Rattle.hs_core_copies.proofs.BesideLemmas.{home_of_peer}
 use Rattle.hs_core_copies.proofs.DeliverLemmas.{message_has}
@@ -21,15 +21,14 @@ use Rattle.hs_core_copies.specs.InStep.{IsInStep, IsOf, IsWithin}
 use Rattle.hs_core_words.specs.Asking.{send_round}
 use Rattle.hs_core_words.specs.Changing.{add_entry_tasks, add_operation, change_group, change_pool, change_rejoin, note, post, set_rejoin, set_status, set_viewed}
 use Rattle.hs_core_words.specs.declared.event.Event.{Event}
-use Rattle.hs_core_words.specs.Delivering.{take_copy}
-use Rattle.hs_core_words.specs.Effects.{note_enter, note_sweep, round_messages, tell_enter, tell_operation}
+use Rattle.hs_core_words.specs.Effects.{note_enter, note_sweep, round_messages, tell_operation}
 use Rattle.hs_core_words.specs.Failing.{leave}
 use Rattle.hs_core_words.specs.Joining.{begin_joining, follow_lead, joining_peers}
 use Rattle.hs_core_words.specs.Looking.{catalogue_of, group_of, home, known_of, lead_of, operation_of, shape_of, status_of}
-use Rattle.hs_core_words.specs.Operating.{add_read, begin_line, busy_line, carry_out, go_on_with, propose_entry, take_step, wait_for, what_holds}
+use Rattle.hs_core_words.specs.Operating.{add_read, begin_line, busy_line, carry_out, go_on_with, propose_entry, take_step, wait_for}
 use Rattle.hs_core_words.specs.Seeing.{pointers_for, view_for}
 use Rattle.hs_core_words.specs.State.{Core}
-use Rattle.hs_core_words.specs.Step.{begin_event, do_event, end_event, keep_entries, line_of, refuse_entries, run_event, step}
+use Rattle.hs_core_words.specs.Step.{do_event, end_event, keep_entries, line_of, refuse_entries, run_event, step}
 use Rattle.hs_core_words.specs.Views.{begin_view, change_view, restart}
 use Rattle.hs_desk.specs.declared.done.Done.TheVariants as done
 use Rattle.hs_desk.specs.declared.fault.CoreFault.{CoreFault}
@@ -53,7 +52,7 @@ use Rattle.hs_post.specs.declared.message.Message.TheVariants as message
 use Rattle.hs_post.specs.Pool.{is_empty, restart_numbers, without}
 use Rattle.hs_rejoin.specs.Rejoin.{copied, emptied, follow}
 use Rattle.hs_replica.specs.declared.replica.Replica.{Replica}
-use Rattle.hs_replica.specs.Group.{Group, IsHome, change_copy, committed, copy_of, first_peer, have, hears, is_peer, last_number, lead, lead_takes, no_copy, on_copied, on_emptied, on_have, on_sealed, propose, proposal, renew, renewal, stamp, take_committed, take_entry}
+use Rattle.hs_replica.specs.Group.{Group, change_copy, committed, copy_of, first_peer, have, hears, is_peer, last_number, lead, lead_takes, no_copy, on_copied, on_emptied, on_have, on_sealed, propose, proposal, renew, renewal, stamp, take_committed, take_entry}
 use Rattle.hs_rounds.specs.Rounds.{sent_back}
 use Rattle.hs_shard.specs.declared.effect.Effect.{Effect}
 use Rattle.hs_shard.specs.Facts.{Catalogue}
