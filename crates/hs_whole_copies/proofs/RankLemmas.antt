@@ -137,7 +137,7 @@ module _ (g : ℕ) (c : Whole) (s : Copies Entry) (k : IsShardInStep g c s) (p q
   rank_front =
       ap (λ (xs : Numbered). rank_of xs) fs_are
       ∙ rank_is (take (length front) (s.peers p).list)
-          (plain_front (take (length front) (s.peers p).list) (longest p c.core s) (front_trans (take (length front) (s.peers p).list) (s.peers p).list (longest p c.core s) fs_front (front_append (s.peers p).list (added_to p c.core s))) (k.plain p own))
+      (plain_front (take (length front) (s.peers p).list) (longest p c.core s) (front_trans (take (length front) (s.peers p).list) (s.peers p).list (longest p c.core s) fs_front (front_append (s.peers p).list (added_to p c.core s))) (k.plain p own))
 
   rank_list : rank_of list ≡ rank_told view_after (take (length list) (longest q c.core s))
   rank_list =
