@@ -91,7 +91,7 @@ module _ (laws : Laws) (tells : Type 0) (e : AtEntry) (s : Inside) (h : IsAsker 
   its_run = went tells e g.found g.first g.opening h.shape h.count (command_at s.said) s.said g.lines (at_of s) None tt h.left (command_zero s.said) (are_asked s.said) g.done g.shows
 
   its_disks : RunsOnDisks tells S r story
-  its_disks = runs_on_disks tells e g.found g.first g.opening (command_at s.said) None s.line s.now s.cluster s.cluster s.disks g.lines g.shows.shown g.shows.since
+  its_disks = runs_on_disks tells e g.found g.first g.opening (command_at s.said) None s.line s.now s.cluster s.cluster s.disks g.lines g.shows.shown g.shows.since (λ whole. g.shows.may.untold)
 
   behind : IsBehindAtEntry S r
   behind = elim alike [ | inl one ↦ inl one | inr same ↦ inr same.called ]
