@@ -65,7 +65,7 @@ module _ (tells : Type 0) (e : AtEntry) (found : Found) (first : Running) (openi
 
   module _ (shown : RunsOn tells e.set span found (all_events story)) (since : tells → Since (stands_of disks)) where
     -- no count rose of which nothing is told, where memory was not wanting
-    abbrev pub StandsUntold : Type 0
+    abbrev StandsUntold : Type 0
     StandsUntold = (ending_of (status_by why)).short ≡ false → StandUntold e.set found (all_events story) e.disks disks
 
     pub found_so : HasFound S r story
@@ -74,7 +74,7 @@ module _ (tells : Type 0) (e : AtEntry) (found : Found) (first : Running) (openi
     pub paid_so : ArePaid b lines (silent now disks)
     paid_so = paid_by tells e.set span found (all_events story) (silent e.moment e.disks) (silent now disks) (handed_so e.moment e.disks) (handed_so now disks) shown
 
-    pub on_disks : StandsUntold → RunsOnDisks tells S r story
+    on_disks : StandsUntold → RunsOnDisks tells S r story
     on_disks stands = record {
       span = span;
       before = refl;
