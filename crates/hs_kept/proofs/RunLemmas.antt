@@ -81,7 +81,7 @@ module _ (tells : Type 0) (S : Script) (r : Ran) (told : tells) (alike : OpensAl
   }
 
   behind : IsBehindAtEntry S r
-  behind = elim alike [ | inl one ↦ inl one | inr same ↦ inr same.called ]
+  behind = elim alike [ inl one ↦ inl one | inr same ↦ inr same.called ]
 
   told_as : (how : Option Story) → WentAs S r how → IfSome how (HasReadDisks S r) → IfSome how (RunsOnDisks tells S r) → ToldAs S r how
   told_as None went read runs = went
