@@ -16,7 +16,7 @@ use Rattle.hs_cluster.proofs.HeldLemmas.{last_numbered}
 use Rattle.hs_cluster.proofs.StretchLemmas.{runs_core, steps_shape}
 use Rattle.hs_cluster.proofs.TakenLemmas.{home_within}
 use Rattle.hs_cluster.specs.Begins.{HasOpened}
-use Rattle.hs_cluster.specs.Kept.{LeavesLists, ShowsLists, Span as Call, sealed_front}
+use Rattle.hs_cluster.specs.Kept.{ShowsLists, Span as Call, sealed_front}
 use Rattle.hs_cluster.specs.Opens.{Opens, OpensLists}
 use Rattle.hs_cluster.specs.PeerLogs.{HasPeerLog, KeepsPeers}
 use Rattle.hs_cluster.specs.Resuming.{EndAsSealed, EndsWith}
@@ -66,8 +66,8 @@ use Rattle.hs_workers.specs.declared.fault.WorkFault.TheVariants as work
 
 abbrev pub ShowsOpening : Type 0
 ShowsOpening = (set : Setting) (found : Found) (span : Call) (result : Result ⊤ ClusterFault) (events : Events) → MayOpenWhole set found → (first_core set found).ended ≡ None → span.old.core ≡ first_core set found
-    → ((c : Whole) → OpensLists set found c → KeepsPeers c span.old.logs span.disks span.before) → ShowsLists span result events
-    → LeavesLists (open_whole set found) events span × OnOk result (KeepsPeers (runs whole_machine (open_whole set found) events) span.new.logs span.left span.now)
+    → ((c : Whole) → OpensLists set found c → KeepsPeers c span.old.logs span.disks span.before) → span.old.cache ≡ None → ShowsLists span result events
+    → OnOk result (KeepsPeers (runs whole_machine (open_whole set found) events) span.new.logs span.left span.now)
 
 abbrev pub GoesOnWhole : Type 0
 GoesOnWhole = (c : Whole) (events : Events) (machines : ℕ → Copies Entry) → IsWholeInStep c machines → (steps c.core events).ended ≡ None → (new : ℕ → Copies Entry) × IsWholeInStep (runs whole_machine c events) new
@@ -166,7 +166,7 @@ module _ (laws : Laws) (tells : Type 0) (load : Load) (span : Span) (running : R
   whole = runs whole_machine (open_whole load.set opens.found) opens.events
 
   kept : KeepsPeers (runs whole_machine (open_whole load.set opens.found) opens.events) running.logs span.new span.now
-  kept = (laws.opened load.set opens.found call (Ok tt) opens.events (whole_opens load.set opens.found o) first_goes opens.begins (λ c lists. opens.peers told ahead c lists) (opens.copies told)).1
+  kept = (laws.opened load.set opens.found call (Ok tt) opens.events (whole_opens load.set opens.found o) first_goes opens.begins (λ c lists. opens.peers told ahead c lists) opens.uncached (opens.copies told))
 
   core_is : (runs whole_machine (open_whole load.set opens.found) opens.events).core ≡ running.core
   core_is = runs_core (open_whole load.set opens.found) opens.events ∙ sym turned
@@ -250,7 +250,7 @@ module _ (laws : Laws) (tells : Type 0) (load : Load) (span : Span) (running : R
         by (Summed same runs puts) = tt
 
     fits_team : (team : EndsTeam tells load running.core running.logs disks new h c) → FitsTeam tells load running.core running.logs disks new h c team
-    fits_team (Unworked is none kept stored) = tt
+    fits_team (Unworked _ _ _ _) = tt
     fits_team (Worked w) = fits_work w
 
 -- ---- a load

@@ -56,7 +56,7 @@ returns-then-is_some-clause-ends g c =
     Empty c.open_all.new.watch c.in-Ok.opened.cluster (map seen c.open_all.new.disks.items) opened no_blocks no_roots (Unworked c.outcome_of-then-is_some.ensures.status (refl, refl) (c.outcome_of-then-is_some.ensures.kept ∙ c.new-then-is_some.ensures.items) (c.outcome_of-then-is_some.ensures.stored ∙ c.new-then-is_some-2.ensures.items))
 
 pub work_and_conclude-requires-clause-calm : goal.work_and_conclude-requires-clause-calm
-work_and_conclude-requires-clause-calm g c =
+work_and_conclude-requires-clause-calm g c = λ lifetimes alive.
     subst (λ (k : Core). NobodyJoins k) (sym c.into_parts-core.ensures.core)
     (subst (λ (d : Result ⊤ ClusterFault). OnOk d (NobodyJoins c.in-Ok.opened.cluster.core)) c.in_default.is c.in-Ok.ensures.joins)
 

@@ -1,4 +1,4 @@
-use Rattle.std.proofs.Common.{◌≡◌, ◌∙◌, None, arith, length, map, subst, sym, refl, vec_len}
+use Rattle.std.proofs.Common.{◌≡◌, ◌∙◌, ◌*◌, None, arith, length, map, subst, sym, refl, vec_len}
 use Rattle.std.proofs.lemmas.List.{length-map}
 use Rattle.hs_taking.specs.Disks.{DiskSeen, seen_as}
 use Rattle.hs_load.specs.declared.judgement.Judgement.{Judgement}
@@ -31,7 +31,7 @@ returns-clause-team g c = λ shape.
       | in-Err-judge w ↦ subst (λ (j : Judgement). IsJudgedSo load has.book team j) (sym w.judgement-is) tt
     ] in
     let many : length (map seen c.args.disks.now.items) ≡ c.args.core.members.shape.shards * c.args.core.members.shape.copies
-    = length-map c.args.disks.now.items seen ∙ (let ok = c.args.disks.now.ok.0 in (omega (arith, ok))) ∙ c.requires.shape in
+    = length-map c.args.disks.now.items seen ∙ (let ok = c.args.disks.now.ok.0 in let is : length c.args.disks.now.items ≡ vec_len c.args.disks.now = omega (arith, ok) in is) ∙ c.requires.shape in
     let rests : has.book.ended ≡ None → MayGoOn has.book.core (length joined.peers.logs.items) (vec_len c.work_and_join.new.disks) c.work_and_join.new.watch
     = may_go_on c.args.core has.book (length joined.peers.logs.items) (vec_len c.work_and_join.new.disks) c.work_and_join.new.watch has.kept.is
     (has.worked.logs ∙ many)
