@@ -1,8 +1,8 @@
 -- At a moment of a run that stands, what is pending of images that count is what its lines ask for.
-use Rattle.std.proofs.Common.{◌≡◌, ◌∙◌, ap, sym, subst, refl, ℕ, suc, ◌+◌, ◌*◌, ◌<◌, ◌≤◌, true, List, [], ◌∷◌, ◌++◌, Option, Some, length, take, drop, arith}
+use Rattle.std.proofs.Common.{◌≡◌, ◌∙◌, ap, sym, subst, refl, ℕ, suc, ◌+◌, ◌*◌, ◌<◌, ◌≤◌, List, [], ◌∷◌, ◌++◌, Option, Some, length, take, drop, arith}
 use Rattle.std.proofs.lemmas.List.{drop-append-le}
 use Rattle.std.specs.List.{AllByRecursion}
-use Rattle.std.specs.Prelude.{slice_get, unwrap_or}
+use Rattle.std.specs.Prelude.{unwrap_or}
 use Rattle.hs_asking.proofs.HandLemmas.{all_append}
 use Rattle.hs_core_words.specs.Looking.{front_of, group_of}
 use Rattle.hs_fold.specs.Pending.{asked_by}

@@ -115,7 +115,7 @@ module _ (laws : Laws) (tells : Type 0) (e : AtEntry) (s : Inside) (h : IsAsker 
   }
 
   behind : IsBehindAtEntry S r
-  behind = elim alike [ | inl one ↦ inl one | inr same ↦ inr same.called ]
+  behind = elim alike [ inl one ↦ inl one | inr same ↦ inr same.called ]
 
   its_story : IsToldAs S r story
   its_story = told_of tells S r story its_disks.span told its_disks.before its_disks.old.stands its_disks.shown behind its_run (read_as tells S r story its_disks told)
