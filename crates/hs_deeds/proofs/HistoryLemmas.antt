@@ -1,23 +1,20 @@
 -- What a core tells from its opening on is deeds, whatever events come.
-use Rattle.std.proofs.Common.{◌≡◌, ◌∙◌, sym, ap, subst, ℕ, ◌++◌, List, [], ◌∷◌, map, Option, Some, None, refl, arith, append_assoc}
+use Rattle.std.proofs.Common.{◌≡◌, ◌∙◌, sym, ap, subst, ℕ, ◌++◌, List, [], ◌∷◌, map, Option, Some, None, refl, append_assoc}
 use Rattle.std.specs.Option.{option_map}
-use Rattle.hs_answered.specs.Standing.{store_with}
+use Rattle.hs_answered.specs.Standing.{IsFolded, store_with}
 use Rattle.hs_any_events.proofs.AlongLemmas.{LawsBelow, code_for}
-use Rattle.hs_any_events.proofs.CodedHistoryLemmas.{base_is_above, base_of}
 use Rattle.hs_any_events.proofs.CodedLemmas.{Code, coded_gives, coded_name}
-use Rattle.hs_any_events.proofs.CodedOpeningLemmas.{beside_itself, steady_coded}
+use Rattle.hs_any_events.proofs.AlongLemmas.{code_of as opened_code, first_of}
 use Rattle.hs_any_events.proofs.CodedTableLemmas.{table_of, table_whole, brought_by}
 use Rattle.hs_any_events.proofs.CodedWalkLemmas.{IsCodedSteady}
-use Rattle.hs_any_events.proofs.SteadyLemmas.{IsSteady}
 use Rattle.hs_any_events.specs.Events.{ComesNext, any_lines}
-use Rattle.hs_awaiting.specs.declared.waiting.Waiting.{Waiting}
-use Rattle.hs_core_words.specs.Looking.{operation_of}
 use Rattle.hs_core_words.specs.Opening.{new_core}
 use Rattle.hs_core_words.specs.State.{Core}
 use Rattle.hs_core_words.specs.Step.{step}
 use Rattle.hs_core_words.specs.declared.event.Event.{Event}
 use Rattle.hs_core_words.specs.declared.event.Event.TheVariants as event
 use Rattle.hs_deeds.proofs.BareLemmas.{bare_is}
+use Rattle.hs_deeds.proofs.CarryLemmas.{folded_there}
 use Rattle.hs_deeds.proofs.GivenDeedLemmas.{ByPointers}
 use Rattle.hs_deeds.proofs.OnLemmas.{map_join}
 use Rattle.hs_deeds.proofs.OpensLemmas.{IsOpenTelling, opens_telling}
@@ -33,7 +30,6 @@ use Rattle.hs_fold.specs.Shards.Setting.{Setting}
 use Rattle.hs_journal.specs.declared.entry.JournalEntry.{JournalEntry}
 use Rattle.hs_journal.specs.Deeds.{as_deed}
 use Rattle.hs_journal.specs.Events.{client_op}
-use Rattle.hs_laws.specs.Valid.{IsValid}
 use Rattle.hs_limits.specs.declared.address.Address.{Address}
 use Rattle.hs_limits.specs.declared.limits.Limits.{Limits}
 use Rattle.hs_model.proofs.Members.{Member, member-append_left, member-append_right}
@@ -42,54 +38,12 @@ use Rattle.hs_model.specs.Deeds.{AreDeeds, DeedEntry, deed_store}
 use Rattle.hs_model.specs.Hollow.{hollow}
 use Rattle.hs_model.specs.Store.{Store}
 use Rattle.hs_standing.proofs.AlongWalkLemmas.{steps_over}
-use Rattle.hs_standing.proofs.LegalOpenLemmas.{folds_valid, opened}
-use Rattle.hs_standing.proofs.ValidLemmas.{told_valid}
 use Rattle.hs_standing.specs.Copies.{AllComeOn}
 use Rattle.hs_standing.specs.Held.{GivesAddresses}
 use Rattle.hs_standing.specs.Opens.{MayOpen}
-use Rattle.hs_standing.specs.Run.{RunStands}
-use Rattle.hs_standing.specs.Standing.{judging_of}
-use Rattle.hs_standing.specs.Start.{Start}
-use Rattle.hs_standing.specs.Telling.{told_so_far}
 use Rattle.hs_told.proofs.OpenedLemmas.{opened_turn}
 use Rattle.hs_told.proofs.OrderLemmas.{step_turn}
 use Rattle.hs_told.specs.InTurn.{AllMayCome, IsInTurn, MayBegin}
-
--- ---- as a core opens
-
-module _ (start : Start) (core : Core) (cs : List Folded) (its : RunStands start core cs) (valid : IsValid start.entry) (idle : (line : ℕ) (w : Waiting) → operation_of line core ≡ Some w → ⊥) where
-  abbrev nobody : ℕ → Option Command
-  nobody n = None
-
-  abbrev stands_steady : IsSteady start.set.name start.set.limits core.progress.last_line core cs
-  stands_steady = record {
-    commands = nobody;
-    none_above = λ line up. refl;
-    limited = its.limits;
-    orderly = its.orderly;
-    lawful = its.lawful;
-    sent = its.sent;
-    resting = its.resting;
-    stored = its.stored;
-    addressed = its.addressed;
-    commanded = λ line w at. absurd (idle line w at);
-    epochs = its.epochs;
-    valid = told_valid (judging_of start) start.entry (told_so_far core) (store_with cs core.sessions) valid its.tells;
-  }
-
-  stands_coded : (events : Events) → IsCodedSteady (code_for start core cs its valid idle events) start.set.limits core.progress.last_line core
-  stands_coded events = record {
-    coded = core;
-    beside = beside_itself (code_for start core cs its valid idle events) core idle;
-    steady = (
-      cs,
-      steady_coded (code_for start core cs its valid idle events) core idle start.set.limits core.progress.last_line cs stands_steady
-          (base_is_above its.lawful.lawful.history (base_of its.lawful.lawful.history) (omega arith)),
-    );
-  }
-
-none_begun : (core : Core) → IsInTurn (λ n. None) core → (line : ℕ) (w : Waiting) → operation_of line core ≡ Some w → ⊥
-none_begun core turn line w at = cc (turn.turns.asked line w.operation.op (ap (λ (y : Option Waiting). option_map (λ (u : Waiting). u.operation.op) y) at)).named
 
 -- ---- along events
 
@@ -151,26 +105,14 @@ told_deeds limits start c its =
 
 module _ (below : LawsBelow) (shown : ByPointers) (set : Setting) (found : Found) (cs : List Folded) (names : GivesAddresses set.name) (may : MayOpen (any_lines set) set.shape (opens_with set found) found.opened cs)
     (commands : ℕ → Option Command) (none : client_op (commands 0) ≡ None) where
-  abbrev start_of : Start
-  start_of = record { set = set; commands = λ line. None; entry = store_with cs [] }
-
   abbrev opens : Core
   opens = first_core set found
 
   abbrev new : Core
   new = new_core set.shape set.limits (opens_with set found) found.opened
 
-  its_of : (after : List Folded) × RunStands start_of (first_core set found) after
-  its_of = opened below.views below.steps below.laws (any_lines set) names set.shape (opens_with set found) found.opened cs may
-
-  valid_of : IsValid (store_with cs [])
-  valid_of = folds_valid set.name (new_core set.shape set.limits (opens_with set found) found.opened) cs may.lawful
-
-  idle_of : (line : ℕ) (w : Waiting) → operation_of line (first_core set found) ≡ Some w → ⊥
-  idle_of = none_begun opens (opened_turn (λ line. None) set.shape set.limits (opens_with set found) found.opened refl)
-
   abbrev code_of : Events → Code
-  code_of es = code_for start_of (first_core set found) its_of.0 its_of.1 valid_of idle_of es
+  code_of es = opened_code below set found cs names may es
 
   telling : IsOpenTelling set.limits (bare_store (new_core set.shape set.limits (opens_with set found) found.opened)) (first_core set found)
   telling = opens_telling set.shape set.limits (opens_with set found) found.opened
@@ -178,16 +120,22 @@ module _ (below : LawsBelow) (shown : ByPointers) (set : Setting) (found : Found
   first_tells : (es : Events) → GoesOnTelling (code_of es) set.limits (bare_store (new_core set.shape set.limits (opens_with set found) found.opened)) commands (first_core set found)
   first_tells es = record {
     turn = opened_turn commands set.shape set.limits (opens_with set found) found.opened none;
-    tells = record { its = stands_coded start_of opens its_of.0 its_of.1 valid_of idle_of es; points = telling.points; told = λ clean. telling.told };
+    tells = record { its = first_of below set found cs names may es; points = telling.points; told = λ clean. telling.told };
   }
+
+  abbrev goes_on : (es : Events) → AllComeOn ComesNext (first_core set found) es → AllKeepTurn commands (first_core set found) es → GoesOnTelling (code_of es) set.limits (bare_store new) commands (steps (first_core set found) es)
+  goes_on es come keep = all_tell below shown (code_of es) (coded_gives (code_of es) names (table_whole es)) set.limits (bare_store new) commands es opens come keep (λ a m. m) (first_tells es)
 
   pub history_told : (es : Events) → AreClients commands → AllComeOn ComesNext (first_core set found) es → AllKeepTurn commands (first_core set found) es
       → HasTold set.limits (hollow (store_with cs [])) (steps (first_core set found) es)
   history_told es clients come keep =
-      subst (λ (s : Store). HasTold set.limits s last) (bare_is new cs may.lawful.folded) (has_told (code_of es) set.limits (bare_store new) commands last clients goes)
-    where
-      last : Core
-      last = steps opens es
+      subst (λ (s : Store). HasTold set.limits s (steps opens es)) (bare_is new cs may.lawful.folded) (has_told (code_of es) set.limits (bare_store new) commands (steps opens es) clients (goes_on es come keep))
 
-      goes : GoesOnTelling (code_of es) set.limits (bare_store new) commands last
-      goes = all_tell below shown (code_of es) (coded_gives (code_of es) names (table_whole es)) set.limits (bare_store new) commands es opens come keep (λ a m. m) (first_tells es)
+  -- the answers are in order, and the catalogues are folds
+  pub history_turn : (es : Events) → AllComeOn ComesNext (first_core set found) es → AllKeepTurn commands (first_core set found) es → IsInTurn commands (steps (first_core set found) es)
+  history_turn es come keep = (goes_on es come keep).turn
+
+  pub history_folds : (es : Events) → AllComeOn ComesNext (first_core set found) es → AllKeepTurn commands (first_core set found) es → (after : List Folded) × IsFolded (steps (first_core set found) es) after
+  history_folds es come keep =
+      let its : IsCodedSteady (code_of es) set.limits (steps opens es).progress.last_line (steps opens es) = (goes_on es come keep).tells.its in
+      (its.steady.0, folded_there (code_of es) (steps opens es) its.coded its.beside its.steady.0 its.steady.1.lawful.folded)

@@ -5,7 +5,7 @@ use Rattle.hs_asker.specs.Shows.{IsTold, began_by, entry_lists}
 use Rattle.hs_asker.specs.Silent.{status_by}
 use Rattle.hs_asking.proofs.RootLemmas.{enter_retained}
 use Rattle.hs_asking.specs.Shown.{Began, Shown, store_now}
-use Rattle.hs_cluster.specs.Disks.{DiskSeen, stands_of}
+use Rattle.hs_cluster.specs.Disks.{stands_of}
 use Rattle.hs_events.specs.Taken.{or_blank, taken_lists}
 use Rattle.hs_files.specs.Client.{AsksAsClient, beneath, client_script, tree_status}
 use Rattle.hs_files.specs.Fetched.{Cut, Ended as FetchEnded, EndsFetch, Fetched, FetchesFile, Stopped as FetchStopped, Unbegun as FetchUnbegun, Unopened as FetchUnopened}

@@ -1,11 +1,11 @@
 -- What entries of one line that puts a root, and of shards, leave of its key and of blocks.
-use Rattle.std.proofs.Common.{◌≡◌, ◌∙◌, ◌⊎◌, inl, inr, ap, sym, subst, refl, ℕ, Bool, true, false, List, [], ◌∷◌, Option, Some, None, bytes_eq, if◌then◌else◌, slice_index, unwrap_or}
+use Rattle.std.proofs.Common.{◌≡◌, ◌∙◌, ◌⊎◌, inl, inr, ap, sym, subst, refl, ℕ, Bool, true, false, List, [], ◌∷◌, Option, Some, None, if◌then◌else◌, slice_index, unwrap_or}
 use Rattle.std.proofs.lemmas.Slice.Eq.{bytes_eq-Decides}
 use Rattle.std.specs.List.{AllByRecursion}
 use Rattle.std.specs.Ordering.{is_gt}
 use Rattle.std.specs.Prelude.{find}
 use Rattle.hs_asking.proofs.RootLemmas.{enter_retained}
-use Rattle.hs_fold.specs.Shards.Change.{Change, change, keeps, may_keep}
+use Rattle.hs_fold.specs.Shards.Change.{change, keeps, may_keep}
 use Rattle.hs_fold.specs.Shards.Happening.{Happening, changes, enters as entering, happen, happen_all, sweeps as sweeping}
 use Rattle.hs_journal.specs.Events.{client_op, event_at, events_of, line_event, shard_event, store_by, with_event}
 use Rattle.hs_journal.specs.declared.entry.JournalEntry.{JournalEntry}
@@ -19,9 +19,9 @@ use Rattle.hs_limits.specs.declared.address.Held.{Held}
 use Rattle.hs_limits.specs.declared.limits.Limits.{Limits}
 use Rattle.hs_model.proofs.JudgeLemmas.{judge_rooted, root_refused}
 use Rattle.hs_model.specs.Inner.{enter, sweep}
-use Rattle.hs_model.specs.Judge.{Judged, address_of, judge, nothing, refused, root_refusals, rooted, roots_with}
+use Rattle.hs_model.specs.Judge.{Judged, address_of, judge, nothing, root_refusals, roots_with}
 use Rattle.hs_model.specs.Refusals.{first}
-use Rattle.hs_model.specs.Run.{Event, asks, enters, run, sweeps}
+use Rattle.hs_model.specs.Run.{Event, run, sweeps}
 use Rattle.hs_model.specs.Store.{Root, Store, block_at, held_at, is_retained, place_root, retained_at, root_cmp, with_roots}
 use Rattle.hs_model.specs.declared.command.Command.{Command}
 use Rattle.hs_model.specs.declared.deed.Deed.{Deed}

@@ -1,5 +1,5 @@
 -- At each moment of a run whose core goes on behind its opening, what is pending is what its lines ask for.
-use Rattle.std.proofs.Common.{◌≡◌, ◌∙◌, inl, inr, ap, sym, subst, refl, ℕ, ◌+◌, ◌<◌, ◌==◌, ◌&&◌, Bool, true, false, List, None, length, arith, if◌then◌else◌}
+use Rattle.std.proofs.Common.{◌≡◌, ◌∙◌, inl, inr, ap, refl, ℕ, ◌+◌, ◌<◌, ◌==◌, ◌&&◌, Bool, true, false, List, None, length, arith, if◌then◌else◌}
 use Rattle.std.specs.Prelude.{filter}
 use Rattle.hs_clauses.proofs.AskedLemmas.{IsAskedOf, its_disks, told_as}
 use Rattle.hs_clauses.proofs.CourseLemmas.{some_course}

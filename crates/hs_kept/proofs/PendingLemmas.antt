@@ -1,5 +1,5 @@
 -- Of a core that stands, what waits in its lists is what its lines ask for.
-use Rattle.std.proofs.Common.{◌≡◌, ◌∙◌, ◌⊎◌, inl, inr, ap, sym, subst, refl, ℕ, ◌+◌, ◌<◌, ◌++◌, Bool, true, false, List, [], ◌∷◌, Option, Some, None, is_none, is_some, arith, append-nil, if◌then◌else◌}
+use Rattle.std.proofs.Common.{◌≡◌, ◌∙◌, inl, inr, ap, sym, subst, refl, ℕ, ◌+◌, ◌<◌, ◌++◌, true, List, [], ◌∷◌, Option, Some, None, is_none, is_some, arith, append-nil, if◌then◌else◌}
 use Rattle.std.proofs.lemmas.Bool.{and_parts, cases_eq, ne_eqb}
 use Rattle.std.specs.Option.{option_map}
 use Rattle.std.specs.Prelude.{slice_get, unwrap_or}
@@ -8,7 +8,6 @@ use Rattle.hs_answered.specs.Standing.{store_with}
 use Rattle.hs_asking.proofs.EventLemmas.{addressed-sessions}
 use Rattle.hs_awaiting.specs.declared.waiting.Waiting.{Waiting}
 use Rattle.hs_core_words.specs.Looking.{front_of, group_of, operation_of}
-use Rattle.hs_core_words.specs.State.{Core}
 use Rattle.hs_effects.proofs.StepLemmas.{all_held, head_none, rest_none}
 use Rattle.hs_effects.specs.Logged.{HasAsked, IsEntryOf, IsOwn}
 use Rattle.hs_entry.specs.declared.entry.Entry.{Entry}
@@ -32,7 +31,7 @@ use Rattle.hs_standing.specs.Commands.{IsCommanded}
 use Rattle.hs_standing.specs.Run.{IsRunning}
 use Rattle.hs_standing.specs.Standing.{WholeStands, judging_of}
 use Rattle.hs_standing.specs.Start.{Start, store_after}
-use Rattle.hs_tokens.specs.Seats.{Seat, Seats, found, held_at, nothing, seat_of}
+use Rattle.hs_tokens.specs.Seats.{Seats, found, held_at, nothing, seat_of}
 use Rattle.hs_told.specs.InTurn.{told_of}
 use Rattle.hs_told.specs.Part.{asking}
 use Rattle.hs_kept.proofs.HeldLemmas.{standing_sessions}

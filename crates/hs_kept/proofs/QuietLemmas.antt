@@ -11,9 +11,9 @@ use Rattle.hs_fold.specs.Catalogue.{Present, Shard}
 use Rattle.hs_fold.specs.Runs.Facts.{Catalogue, plain}
 use Rattle.hs_fold.specs.Runs.Happening.{happening_of}
 use Rattle.hs_fold.specs.Shards.Catalogue.{present_at, Catalogue as Plain}
-use Rattle.hs_fold.specs.Shards.Change.{Change, change, drops, gives, is_usable, keeps, may_store, stores}
+use Rattle.hs_fold.specs.Shards.Change.{drops, gives, is_usable, keeps, may_store, stores}
 use Rattle.hs_fold.specs.Shards.Happening.{Happening, and_then, block_happens, changes, enters as entering, happen, happen_all, happenings, mark_happens, sweeps as sweeping}
-use Rattle.hs_journal.specs.Events.{addressed, client_op, event_at, events_of, line_event, shard_event, store_by, with_event}
+use Rattle.hs_journal.specs.Events.{addressed, client_op, event_at, events_of, line_event, shard_event, store_by}
 use Rattle.hs_journal.specs.declared.entry.JournalEntry.{JournalEntry}
 use Rattle.hs_journal.specs.declared.entry.Who.{Who}
 use Rattle.hs_journal.specs.declared.entry.Who.TheVariants as who

@@ -1,5 +1,5 @@
 -- Lines, and what they ask for.
-use Rattle.std.proofs.Common.{◌≡◌, inl, inr, subst, ℕ, ◌-◌, ◌≤◌, ◌==◌, Bool, true, false, List, [], ◌∷◌, Option, Some, None, arith, length, if◌then◌else◌}
+use Rattle.std.proofs.Common.{◌≡◌, inl, inr, subst, ℕ, ◌-◌, ◌≤◌, ◌==◌, Bool, true, false, List, [], ◌∷◌, Some, None, arith, length, if◌then◌else◌}
 use Rattle.std.proofs.lemmas.Bool.{cases_eq, ne_eqb}
 use Rattle.std.specs.List.{AllByRecursion}
 use Rattle.hs_asker.specs.Lines.{command_at, ops_of}

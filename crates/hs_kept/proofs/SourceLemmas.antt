@@ -1,6 +1,5 @@
 -- However a copy ends, the first store has the roots and blocks of its opening.
-use Rattle.std.proofs.Common.{◌≡◌, ◌∙◌, ap, sym, subst, refl, ℕ, ◌*◌, List, [], ◌∷◌, ◌++◌, map, Option, Some, length, arith}
-use Rattle.std.proofs.lemmas.List.{length-map}
+use Rattle.std.proofs.Common.{◌≡◌, ◌∙◌, ap, sym, subst, ℕ, List, [], ◌∷◌, ◌++◌, map, Option, Some}
 use Rattle.std.specs.List.{AllByRecursion}
 use Rattle.hs_asker.specs.Going.{AtEntry}
 use Rattle.hs_asker.specs.Shows.{IsTold}
@@ -8,13 +7,10 @@ use Rattle.hs_asking.proofs.RootLemmas.{root_stays}
 use Rattle.hs_asking.specs.Seats.{IsSane}
 use Rattle.hs_asking.specs.Shown.{Shown}
 use Rattle.hs_asking.specs.Staying.{NeverDrops}
-use Rattle.hs_copy.specs.Copying.{HasCopied, IsStopped}
 use Rattle.hs_copy.specs.Listing.{HasListed}
-use Rattle.hs_copy.specs.declared.fault.CopyFault.{CopyFault}
 use Rattle.hs_events.specs.Taken.{or_blank, taken_lists}
 use Rattle.hs_files.specs.Client.{AsksAsClient}
 use Rattle.hs_files.specs.Copied.{Copied, CopiesRoot, Cut, EndsCopy, EndsCopying, FirstUnopened, Had, IsInFirst, Opened, SecondUnopened, Shapes, Stopped, Unbegun, Untold, in_first}
-use Rattle.hs_fold.specs.Shards.Setting.{Numbered}
 use Rattle.hs_founded.specs.Spelled.{AreSpelled, HoldBytes}
 use Rattle.hs_journal.specs.Events.{client_op, events_of}
 use Rattle.hs_limits.specs.Limits.{greatest_limits}
@@ -38,7 +34,7 @@ use Rattle.hs_kept.proofs.QuietLemmas.{IsQuiet}
 use Rattle.hs_kept.proofs.StoppedLemmas.{StopsSo, asked_alone, quiet_then}
 use Rattle.hs_kept.proofs.SurvivesLemmas.{all_chosen, never_all}
 use Rattle.hs_kept.specs.Copied.{Asked, FirstStays, StaysItself, Unasked}
-use Rattle.hs_kept.specs.Kept.{AsksPlainly, IsSoundStart, StartsAlike, disk_lists, set_of, store_before, store_behind}
+use Rattle.hs_kept.specs.Kept.{AsksPlainly, IsSoundStart, StartsAlike, disk_lists, set_of, store_before}
 use Rattle.hs_kept.specs.Survives.{NoneDrops}
 
 -- ---- what is asked for is quiet

@@ -9,11 +9,10 @@ use Rattle.hs_asking.specs.Staying.{Stays, by_root}
 use Rattle.hs_fold.specs.Pending.{asked_by}
 use Rattle.hs_entry.specs.declared.entry.Entry.{Entry}
 use Rattle.hs_entry.specs.declared.entry.Entry.TheVariants as kind
-use Rattle.hs_fold.specs.Runs.Happening.{happening_of}
 use Rattle.hs_fold.specs.Shards.Happening.{Happening, happen_all, happenings}
 use Rattle.hs_journal.specs.Events.{client_op, events_of}
 use Rattle.hs_journal.specs.Moments.{below}
-use Rattle.hs_journal.specs.Order.{IsOfLine, IsOrdered, session_of}
+use Rattle.hs_journal.specs.Order.{IsOrdered, session_of}
 use Rattle.hs_journal.specs.declared.entry.JournalEntry.{JournalEntry}
 use Rattle.hs_laws.proofs.DistinctLemmas.{run-distinct}
 use Rattle.hs_laws.proofs.ValidLemmas.{valid_from_is}
@@ -26,7 +25,7 @@ use Rattle.hs_limits.specs.declared.address.Held.{Held}
 use Rattle.hs_limits.specs.declared.limits.Limits.{Limits}
 use Rattle.hs_model.specs.Judge.{address_of, nothing}
 use Rattle.hs_model.specs.Run.{Event, run}
-use Rattle.hs_model.specs.Store.{Root, Store, block_at, held_at, reborn, retained_at}
+use Rattle.hs_model.specs.Store.{Store, block_at, held_at, reborn, retained_at}
 use Rattle.hs_model.specs.declared.command.Command.{Command}
 use Rattle.hs_model.specs.declared.op.Op.{Op}
 use Rattle.hs_model.specs.declared.op.Op.TheVariants as op
@@ -35,10 +34,10 @@ use Rattle.hs_tree.proofs.PlantLemmas.{planted_present, planted_stays}
 use Rattle.hs_tree.specs.Growing.{IsPlanted}
 use Rattle.hs_tree.specs.Storing.{our_session}
 use Rattle.hs_tree.specs.Trees.{IsStored, height, node, stored_cut, top, tree_of}
-use Rattle.hs_kept.proofs.KeyLemmas.{Goes, HasNoMore, IsOfKey, IsRest, IsSameOr, KeepsOr, goes_entries, goes_happenings, goes_then, or_then}
-use Rattle.hs_kept.proofs.LineLemmas.{HasLine, another, has_below, has_left, has_line, has_right, never_twice, parts_at, stands, where_line}
+use Rattle.hs_kept.proofs.KeyLemmas.{Goes, HasNoMore, IsOfKey, IsRest, KeepsOr, goes_entries, goes_happenings, goes_then, or_then}
+use Rattle.hs_kept.proofs.LineLemmas.{HasLine, another, has_below, has_left, has_line, never_twice, parts_at, stands, where_line}
 use Rattle.hs_kept.proofs.QuietLemmas.{IfHappens, IsQuiet, IsQuietHappening, OfKind, all_happen, by_kind, quiet_all, quiet_entries, still_happens}
-use Rattle.hs_kept.specs.Pending.{HappensBy, IsNextOf, IsPendingAs, IsWriting, PutsAs}
+use Rattle.hs_kept.specs.Pending.{IsNextOf, IsPendingAs, IsWriting, PutsAs}
 
 -- ---- two stores
 
@@ -338,10 +337,10 @@ module _ (name : List ℕ → Address) (limits : Limits) (commands : ℕ → Opt
         where_waiting : IsValid (reborn u) → IsKeptWhole (reborn u)
         where_waiting valid = elim (parts_at commands m told more ordered) [
           | inl is ↦ (
-            let one = goes_behind is in
-            let holds : held_at s our_session handle ≡ Some poised.held = one.held our_session handle ∙ poised.holds in
-            finish_behind valid one (goes_pending (answered_behind is) (λ held address taken puts n. root_puts holds held address taken puts) distinct_then)
-          )
+              let one = goes_behind is in
+              let holds : held_at s our_session handle ≡ Some poised.held = one.held our_session handle ∙ poised.holds in
+              finish_behind valid one (goes_pending (answered_behind is) (λ held address taken puts n. root_puts holds held address taken puts) distinct_then)
+              )
           | inr z ↦ finish_z z.0 z.1 valid
         ]
 

@@ -1,5 +1,5 @@
 -- With any number of copies a run that follows one which came to its end may stop too.
-use Rattle.std.proofs.Common.{◌≡◌, ◌∙◌, inl, inr, ap, sym, subst, refl, ℕ, ◌+◌, ◌*◌, ◌<◌, ◌≤◌, arith, false, true, List, [], Option, Some, None, length, map}
+use Rattle.std.proofs.Common.{◌≡◌, ◌∙◌, inl, inr, ap, sym, subst, refl, ℕ, ◌+◌, ◌*◌, ◌<◌, ◌≤◌, arith, false, true, List, [], Option, Some, None, length}
 use Rattle.std.proofs.lemmas.Bool.{cases_lt, true≢false}
 use Rattle.std.proofs.lemmas.List.{get_or_past, length-map}
 use Rattle.std.specs.Prelude.{IfSome}
@@ -13,14 +13,12 @@ use Rattle.hs_clauses.specs.Stopped.{IsShownByMoments, KeepsCopies, ShownOf}
 use Rattle.hs_events.specs.Taken.{peer_count, taken_lists}
 use Rattle.hs_fold.specs.Good.{is_good}
 use Rattle.hs_fold.specs.Images.{IsLeft, image_at}
-use Rattle.hs_fold.specs.Shards.Course.{was_good}
 use Rattle.hs_fold.specs.Shards.Images.{AreGoodImages, Image, IsBlank, IsGoodImage}
 use Rattle.hs_journal.specs.Events.{client_op}
 use Rattle.hs_limits.specs.declared.limits.Limits.{Limits}
-use Rattle.hs_limits.specs.Shape.{IsShape, peer_of}
+use Rattle.hs_limits.specs.Shape.{peer_of}
 use Rattle.hs_model.specs.declared.command.Command.{Command}
 use Rattle.hs_model.specs.declared.course.CourseItem.{CourseItem}
-use Rattle.hs_ports.specs.declared.disk.Side.{Side}
 use Rattle.hs_ports.specs.Disk.{IsImage, Loose, Standing}
 use Rattle.hs_ports.specs.MemoryDisk.{untold}
 use Rattle.hs_ports.specs.Moments.{disk_at}

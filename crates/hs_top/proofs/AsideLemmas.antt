@@ -1,12 +1,10 @@
 -- A run may begin on what a stop left where its opening sets peers aside, as long as each shard keeps a good image: the disks of these count as blank.
-use Rattle.std.proofs.Common.{◌≡◌, ◌∙◌, ◌⊎◌, inl, inr, ap, sym, subst, ℕ, zero, suc, ◌+◌, ◌<◌, Bool, true, false, List, [], ◌∷◌, length, Option, Some, None, unwrap_or, refl, arith}
-use Rattle.std.proofs.lemmas.Bool.{true≢false}
+use Rattle.std.proofs.Common.{◌≡◌, ◌∙◌, ◌⊎◌, inr, ap, sym, subst, ℕ, zero, suc, ◌+◌, Bool, true, false, List, [], ◌∷◌, length, Option, None, unwrap_or, refl, arith}
 use Rattle.std.specs.Prelude.{if◌then◌else◌}
 use Rattle.hs_events.specs.Taken.{or_blank, taken_lists}
 use Rattle.hs_fold.specs.Images.{IsLeft, image_at}
 use Rattle.hs_fold.specs.Opened.{chosen_each}
-use Rattle.hs_fold.specs.Shards.Course.{was_good}
-use Rattle.hs_fold.specs.Shards.Images.{AreGoodImages, HasLeft, Image, IsBlank, IsGoodImage, Stop}
+use Rattle.hs_fold.specs.Shards.Images.{AreGoodImages, Image, IsBlank, Stop}
 use Rattle.hs_fold.specs.Shards.Setting.{Numbered}
 use Rattle.hs_limits.specs.declared.shape.Shape.{Shape}
 use Rattle.hs_limits.specs.Shape.{peer_of}
@@ -14,7 +12,7 @@ use Rattle.hs_peerlog.proofs.ImageLemmas.{list-same}
 use Rattle.hs_ports.specs.declared.disk.Side.{Side}
 use Rattle.hs_ports.specs.Disk.{Standing}
 use Rattle.hs_ports.specs.Moments.{disk_at}
-use Rattle.hs_promise.specs.Entry.{MayStop, entry_logs, is_aside, logs_from}
+use Rattle.hs_promise.specs.Entry.{MayStop, is_aside, logs_from}
 use Rattle.hs_promise.specs.Run.{Ran, Script}
 use Rattle.hs_promise.specs.Stops.{image_logs}
 use Rattle.hs_side.specs.Current.{list_in}
