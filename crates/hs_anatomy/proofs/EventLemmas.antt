@@ -82,6 +82,81 @@ round_long shard entry OfRound effect c is = swept effect.removed ∙ length_set
         go true = refl
         go false = refl
 
+-- ---- what goes on behind an entry, and entries that take effect one after another
+
+due_by : {P : Core → Type 0} (shard : ℕ) (c : Core) → (is_enter_due shard c ≡ true → P (propose_entry shard (kind.Enter 0 ((catalogue_of shard c).epoch + 1)) c)) → P c → P (propose_due shard c)
+due_by {P = P} shard c enters p = go (is_enter_due shard c) refl
+  where
+    go : (b : Bool) → is_enter_due shard c ≡ b → P (change_if b (propose_entry shard (kind.Enter 0 ((catalogue_of shard c).epoch + 1))) c)
+    go true due = enters due
+    go false late = p
+
+-- P is kept by each act of these; where Once is so, no line has two operations then
+pub record Runs (s : Core) (e : Option Event) (Once : Type 0) (P : Core → Type 0) : Type 0 where
+  pub goes : (line : ℕ) (w : Waiting) (c : Core) → operation_of line c ≡ Some w → (Once → IsIdle w.wait) → P c → P (resume line c)
+  pub views : (shard : ℕ) (c : Core) → P c → P (set_viewed shard true c)
+  pub takes : (shard number : ℕ) (entry : Entry) (c : Core) → committed (group_of shard c) ≡ Some (number, entry) → P c → P (told_at_once shard entry c)
+  pub enters : (shard : ℕ) (c : Core) → IsUrged s e c shard → is_enter_due shard c ≡ true → P c → P (propose_entry shard (kind.Enter 0 ((catalogue_of shard c).epoch + 1)) c)
+  pub once : (c : Core) → P c → Once → AreOnce c.operations
+
+module _ {s : Core} {e : Option Event} {Once : Type 0} {P : Core → Type 0} (R : Runs s e Once P) where
+  by_resume : (line : ℕ) (c : Core) → (Once → (w : Waiting) → operation_of line c ≡ Some w → IsIdle w.wait) → P c → P (resume line c)
+  by_resume line c idle p = go (operation_of line c) refl
+    where
+      go : (o : Option Waiting) → operation_of line c ≡ o → P (resume line c)
+      go None at = rw at p
+      go (Some w) at = R.goes line w c at (λ once. idle once w at) p
+
+  by_lines : (lines : List ℕ) (c : Core) → (Once → AreReady c lines) → P c → P (each lines resume c)
+  by_lines [] c ready p = p
+  by_lines (line ∷ rest) c ready p = by_lines rest (resume line c) (λ once. ready_on c line rest (ready once).0 (ready once).2) (by_resume line c (λ once. (ready once).1) p)
+
+  by_where : (shard : ℕ) (test : Waiting → Bool) → PassesIdle test → (c : Core) → P c → P (resume_where shard test c)
+  by_where shard test idle c p = by_lines (lines_where shard test c) c (λ once. ready_where shard test idle c (R.once c p once)) p
+
+  by_class : (class : Class) (shard : ℕ) (c : Core) → (class ≡ OfRound → IsUrged s e c shard) → P c → P (goes_class class shard c)
+  by_class (OfLine line) shard c urged p = p
+  by_class (OfEnter line) shard c urged p = p
+  by_class (OfView view) shard c urged p = go (view == (group_of shard c).view)
+    where
+      go : (b : Bool) → P (change_if b (λ x. resume_where shard is_for_view (set_viewed shard true x)) c)
+      go true = by_where shard is_for_view view_idle (set_viewed shard true c) (R.views shard c p)
+      go false = p
+  by_class OfRound shard c urged p = due_by shard c (λ due. R.enters shard c (urged refl) due p) p
+  by_class OfBase shard c urged p = p
+
+  -- an entry takes effect, from what is told of it on
+  pub by_effect : (shard number : ℕ) (entry : Entry) (c : Core) → committed (group_of shard c) ≡ Some (number, entry) → P (told_at_once shard entry c) → P (take_effect shard entry c)
+  by_effect shard number entry c next p =
+      subst (λ x. P (resume_where shard (wakes entry (named entry c) x) x)) (sym (after_is shard entry effect (taken shard entry c)))
+      (by_where shard (wakes entry (named entry c) after) (wakes_idle entry (named entry c) after) after (by_class (class_of entry) shard told urged p))
+    where
+      effect : Effect
+      effect = (done_by shard entry c).effect
+
+      told : Core
+      told = told_at_once shard entry c
+
+      after : Core
+      after = goes_class (class_of entry) shard told
+
+      urged : class_of entry ≡ OfRound → IsUrged s e told shard
+      urged is = ByRound (subst (λ n. shard < n) (sym (round_long shard entry (class_of entry) effect c is)) (committed_low shard (number, entry) c next))
+
+  pub by_next : (shard : ℕ) (c : Core) → P c → P (commit_next shard c)
+  by_next shard c p = go (committed (group_of shard c)) refl
+    where
+      go : (o : Option (ℕ × Entry)) → committed (group_of shard c) ≡ o → P (change_with o (λ (x : ℕ × Entry). take_effect shard x.1) c)
+      go None none = p
+      go (Some x) next = by_effect shard x.0 x.1 c next (R.takes shard x.0 x.1 c next p)
+
+  by_times : (n shard : ℕ) (c : Core) → P c → P (times n (commit_next shard) c)
+  by_times zero shard c p = p
+  by_times (suc n) shard c p = by_times n shard (commit_next shard c) (by_next shard c p)
+
+  pub by_commit : (shard : ℕ) (c : Core) → P c → P (commit shard c)
+  by_commit shard c p = by_times (commit_front (group_of shard c) - front_of shard c) shard c p
+
 -- what each act keeps, all of them keep
 pub acts_keep : {s : Core} {e : Option Event} (P : Core → Type 0) → ((a b : Core) → Act s e a b → P a → P b) → (b : Core) → Acts s e b → P s → P b
 acts_keep P k b NoAct p = p
@@ -101,11 +176,7 @@ module _ {s : Core} {e : Option Event} where
   -- ---- a due Enter
 
   due_acts : (shard : ℕ) (c : Core) → IsUrged s e c shard → Acts s e c → Acts s e (propose_due shard c)
-  due_acts shard c urged xs = go (is_enter_due shard c) refl
-    where
-      go : (b : Bool) → is_enter_due shard c ≡ b → Acts s e (change_if b (propose_entry shard (kind.Enter 0 ((catalogue_of shard c).epoch + 1))) c)
-      go true due = AndThen xs (Enters shard urged due)
-      go false late = xs
+  due_acts shard c urged xs = due_by shard c (λ due. AndThen xs (Enters shard urged due)) xs
 
   -- ---- a nudge
 
@@ -118,64 +189,23 @@ module _ {s : Core} {e : Option Event} where
       AndThen (acts_if (is_peer peer (lead_of (home peer c) c)) (λ core. core ▸ propose_due (home peer c) ▸ send_rounds (home peer c)) c xs (λ x ys. round_acts (home peer c) peer known x ys))
       (IsAside (Resends (home peer c) peer known))
 
-  -- ---- operations, where the event is no client's line
+  -- ---- where the event is no client's line
 
   module _ (calm : (line : ℕ) (o : Op) → e ≡ Some (event.Line line o) → ⊥) where
-    resume_acts : (line : ℕ) (c : Core) → (AreOnce s.operations → (w : Waiting) → operation_of line c ≡ Some w → IsIdle w.wait) → Acts s e c → Acts s e (resume line c)
-    resume_acts line c idle xs = go (operation_of line c) refl
-      where
-        go : (o : Option Waiting) → operation_of line c ≡ o → Acts s e (resume line c)
-        go None at = rw at xs
-        go (Some w) at = AndThen xs (Goes line w at (λ once. idle once w at))
-
-    lines_act : (lines : List ℕ) (c : Core) → (AreOnce s.operations → AreReady c lines) → Acts s e c → Acts s e (each lines resume c)
-    lines_act [] c ready xs = xs
-    lines_act (line ∷ rest) c ready xs =
-        lines_act rest (resume line c) (λ once. ready_on c line rest (ready once).0 (ready once).2) (resume_acts line c (λ once. (ready once).1) xs)
-
-    where_acts : (shard : ℕ) (test : Waiting → Bool) → PassesIdle test → (c : Core) → Acts s e c → Acts s e (resume_where shard test c)
-    where_acts shard test idle c xs = lines_act (lines_where shard test c) c (λ once. ready_where shard test idle c (once_acts calm xs once)) xs
-
-    -- ---- entries that take effect
-
-    class_acts : (class : Class) (shard : ℕ) (c : Core) → (class ≡ OfRound → IsUrged s e c shard) → Acts s e c → Acts s e (goes_class class shard c)
-    class_acts (OfLine line) shard c urged xs = xs
-    class_acts (OfEnter line) shard c urged xs = xs
-    class_acts (OfView view) shard c urged xs =
-        acts_if (view == (group_of shard c).view) (λ x. resume_where shard is_for_view (set_viewed shard true x)) c xs (λ x ys. where_acts shard is_for_view view_idle (set_viewed shard true x) (AndThen ys (IsAside (Views shard))))
-    class_acts OfRound shard c urged xs = due_acts shard c (urged refl) xs
-    class_acts OfBase shard c urged xs = xs
-
-    effect_acts : (shard number : ℕ) (entry : Entry) (c : Core) → committed (group_of shard c) ≡ Some (number, entry) → Acts s e c → Acts s e (take_effect shard entry c)
-    effect_acts shard number entry c next xs =
-        subst (λ x. Acts s e (resume_where shard (wakes entry (named entry c) x) x)) (sym (after_is shard entry effect (taken shard entry c)))
-        (where_acts shard (wakes entry (named entry c) after) (wakes_idle entry (named entry c) after) after (class_acts (class_of entry) shard told urged (AndThen xs (TakesEffect shard number entry next))))
-      where
-        effect : Effect
-        effect = (done_by shard entry c).effect
-
-        told : Core
-        told = told_at_once shard entry c
-
-        after : Core
-        after = goes_class (class_of entry) shard told
-
-        urged : class_of entry ≡ OfRound → IsUrged s e told shard
-        urged is = ByRound (subst (λ n. shard < n) (sym (round_long shard entry (class_of entry) effect c is)) (committed_low shard (number, entry) c next))
+    acts_run : Runs s e (AreOnce s.operations) (Acts s e)
+    acts_run = record {
+      goes = λ line w c at idle xs. AndThen xs (Goes line w at idle);
+      views = λ shard c xs. AndThen xs (IsAside (Views shard));
+      takes = λ shard number entry c next xs. AndThen xs (TakesEffect shard number entry next);
+      enters = λ shard c urged due xs. AndThen xs (Enters shard urged due);
+      once = λ c xs once. once_acts calm xs once;
+    }
 
     pub next_acts : (shard : ℕ) (c : Core) → Acts s e c → Acts s e (commit_next shard c)
-    next_acts shard c xs = go (committed (group_of shard c)) refl
-      where
-        go : (o : Option (ℕ × Entry)) → committed (group_of shard c) ≡ o → Acts s e (change_with o (λ (x : ℕ × Entry). take_effect shard x.1) c)
-        go None none = xs
-        go (Some x) next = effect_acts shard x.0 x.1 c next xs
-
-    times_act : (n shard : ℕ) (c : Core) → Acts s e c → Acts s e (times n (commit_next shard) c)
-    times_act zero shard c xs = xs
-    times_act (suc n) shard c xs = times_act n shard (commit_next shard c) (next_acts shard c xs)
+    next_acts shard c xs = by_next acts_run shard c xs
 
     pub commit_acts : (shard : ℕ) (c : Core) → Acts s e c → Acts s e (commit shard c)
-    commit_acts shard c xs = times_act (commit_front (group_of shard c) - front_of shard c) shard c xs
+    commit_acts shard c xs = by_commit acts_run shard c xs
 
     -- ---- peers
 

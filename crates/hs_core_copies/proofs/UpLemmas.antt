@@ -76,7 +76,7 @@ next_rises g c s st lt = go (group_of g c).waiting refl
     go (e ∷ rest) w =
         let one : Core = change_group g take_committed c in
         let here : front_of g one ≡ (take_committed (group_of g c)).front = ap (λ (x : Group). x.front) (group_here g take_committed c (has_group g c s st)) in
-        let still : IsStill g one (take_effect g e c) = keeps_behind (steps_still g) g e c in
+        let still : IsStill g one (take_effect g e c) = keeps_behind (steps_still g) g ((group_of g c).front + 1) e c (next_is e rest w) in
         let is : commit_next g c ≡ take_effect g e c = ap (λ o. change_with o (λ (y : ℕ × Entry). take_effect g y.1) c) (next_is e rest w) in
         subst (λ (y : Core). front_of g c + 1 ≤ front_of g y) (sym is) (omega (arith, here, still.front, taken_is e rest w))
 

@@ -1,29 +1,34 @@
--- What operations and entries that take effect do is made of a few steps, and no operation proposes a View: what each step keeps, they keep.
-use Rattle.std.proofs.Common.{◌≡◌, ℕ, zero, suc, ◌+◌, ◌-◌, Bool, true, false, List, [], ◌∷◌, Option, Some, None, refl}
-use Rattle.std.specs.BTreeMap.{insert_entry, is_at}
-use Rattle.std.specs.Map.{set_value}
+-- What operations and entries that take effect do, by its strokes and acts, where no operation proposes a View: what each of a few steps keeps, it keeps.
+use Rattle.std.proofs.Common.{◌≡◌, sym, subst, ℕ, ◌+◌, Bool, true, false, List, [], ◌∷◌, Option, Some, None, refl}
+use Rattle.std.specs.BTreeMap.{insert_entry}
 use Rattle.std.specs.Option.{option_map_or}
 use Rattle.std.specs.Ordering.{nat_cmp}
-use Rattle.std.specs.Prelude.{if◌then◌else◌, is_some}
-use Rattle.hs_awaiting.specs.declared.wait.Wait.{Wait}
-use Rattle.hs_awaiting.specs.declared.wait.Wait.TheVariants as wait
+use Rattle.std.specs.Prelude.{if◌then◌else◌}
+use Rattle.hs_anatomy.proofs.EventLemmas.{Runs, by_commit, by_effect, by_next}
+use Rattle.hs_anatomy.proofs.StepLemmas.{message_by as message_why, unless_by as unless_why}
+use Rattle.hs_anatomy.proofs.StrokeLemmas.{Steps, by_class, by_go_on, by_line, taken_low}
+use Rattle.hs_anatomy.specs.Effect.{class_of, done_by, taken, told_at_once}
+use Rattle.hs_anatomy.specs.Strokes.{AtFirst, IsStepOf, Seen, new_waiting}
+use Rattle.hs_awaiting.specs.declared.next.Next.{Next}
+use Rattle.hs_awaiting.specs.declared.next.Next.TheVariants as next
 use Rattle.hs_awaiting.specs.declared.waiting.Waiting.{Waiting}
-use Rattle.hs_awaiting.specs.Words.{change_if, change_with, each, times}
+use Rattle.hs_awaiting.specs.Going.{next_step}
+use Rattle.hs_awaiting.specs.Words.{change_if, change_with, each}
+use Rattle.hs_copies.specs.Standing.{TellsNoView}
 use Rattle.hs_core_words.specs.Asking.{send_round, send_rounds, unless_refused, with_message}
-use Rattle.hs_core_words.specs.Changing.{add_operation, change_group, end_operation, note, post, refuse, set_catalogue, set_viewed}
-use Rattle.hs_core_words.specs.Effects.{after_entry, commit, commit_next, is_for_view, note_enter, note_sweep, reach_view, round_messages, take_effect, tell_enter, tell_operation, wakes}
+use Rattle.hs_core_words.specs.Changing.{change_group, end_operation, note, post, refuse, set_catalogue, set_viewed}
+use Rattle.hs_core_words.specs.declared.event.Event.{Event}
+use Rattle.hs_core_words.specs.declared.event.Event.TheVariants as event
+use Rattle.hs_core_words.specs.Effects.{commit, commit_next, round_messages, take_effect}
 use Rattle.hs_core_words.specs.Entering.{is_enter_due, propose_due}
-use Rattle.hs_core_words.specs.Looking.{catalogue_of, front_of, group_of, lead_of, operation_of, shape_of}
-use Rattle.hs_core_words.specs.Operating.{add_read, answer, begin_line, busy_line, carry_out, go_on_with, lines_where, propose_entry, resume, resume_where, take_step, wait_for, what_holds}
-use Rattle.hs_core_words.specs.Pending.{named}
+use Rattle.hs_core_words.specs.Looking.{catalogue_of, group_of, lead_of, operation_of}
+use Rattle.hs_core_words.specs.Operating.{add_read, answer, begin_line, propose_entry}
 use Rattle.hs_core_words.specs.Reporting.{tell_bytes}
 use Rattle.hs_core_words.specs.Seeing.{pointers_for, view_for}
 use Rattle.hs_core_words.specs.State.{Core}
 use Rattle.hs_desk.specs.declared.what.What.{What}
-use Rattle.hs_desk.specs.declared.what.What.TheVariants as what
 use Rattle.hs_entry.specs.declared.entry.Entry.{Entry}
 use Rattle.hs_entry.specs.declared.entry.Entry.TheVariants as kind
-use Rattle.hs_copies.specs.Standing.{TellsNoView}
 use Rattle.hs_entry.specs.Entries.{is_of_base}
 use Rattle.hs_journal.specs.declared.entry.Who.{Who}
 use Rattle.hs_limits.specs.declared.address.Address.{Address}
@@ -38,17 +43,14 @@ use Rattle.hs_ops.specs.declared.operation.Stage.TheVariants as stage
 use Rattle.hs_ops.specs.declared.step.OpStep.{OpStep}
 use Rattle.hs_ops.specs.declared.step.OpStep.TheVariants as step
 use Rattle.hs_ops.specs.Going.{asked_for, begin, block_entry, compared, effect_reply, go, is_same_block, judged_in, mark_entry, on_bytes, on_effect, propose_unless, read_or, read_reply, root_entry}
-use Rattle.hs_ops.specs.Operations.{Operation, after_step, bytes_step, effect_step, go_from, go_step, new_operation, wanted_number}
+use Rattle.hs_ops.specs.Operations.{Operation, bytes_step, effect_step, go_from, go_step, new_operation, wanted_number}
 use Rattle.hs_ops.specs.Refusals.{refusal_of}
-use Rattle.hs_ops.specs.Speaking.{asked_block, judging_shard}
+use Rattle.hs_ops.specs.Speaking.{asked_block}
 use Rattle.hs_ops.specs.Views.{OpView}
 use Rattle.hs_post.specs.declared.message.Message.{Message}
 use Rattle.hs_post.specs.Pool.{message_at}
-use Rattle.hs_replica.specs.Group.{commit_front, committed, take_committed}
+use Rattle.hs_replica.specs.Group.{committed, take_committed}
 use Rattle.hs_rounds.specs.Rounds.{sent_back}
-use Rattle.hs_shard.specs.Apply.{apply}
-use Rattle.hs_shard.specs.Clients.{Applied}
-use Rattle.hs_shard.specs.declared.effect.Effect.{Effect}
 use Rattle.hs_shard.specs.declared.effect.Sent.{Sent}
 use Rattle.hs_shard.specs.Facts.{Catalogue}
 use Rattle.hs_shard.specs.Rounds.{messages}
@@ -137,6 +139,16 @@ plain_effect : (v : OpView) (did : What) (o : Operation) → ProposesPlain (effe
 unfolding on_effect
 plain_effect v did o = plain_answer (go v o.line o.op) (effect_reply v did o.op) (plain_go v o.line o.op)
 
+-- so does each step of an operation
+plain_next : (how : Next) (pointers : List Address) (v : OpView) (o : Operation) → ProposesPlain (next_step how pointers v o)
+plain_next next.Go pointers v o = plain_step v o
+plain_next (next.Bytes bytes) pointers v o = plain_bytes v bytes pointers o
+plain_next (next.Effect did) pointers v o = plain_effect v did o
+
+pub plain_taken : (e : Option Event) (c : Core) (line : ℕ) (w : Waiting) (taken : OpStep) → IsStepOf e c line w taken → ProposesPlain taken
+plain_taken e c line w taken (Seen how pointers is) = subst ProposesPlain (sym is) (plain_next how pointers (view_for w.shard w.operation.op c) w.operation)
+plain_taken e c line w taken (AtFirst o v first is) = subst ProposesPlain (sym is) (plain_step v (new_operation line o))
+
 -- ---- the steps
 
 -- what each of them keeps; R says of two cores what is kept from the one to the other
@@ -156,18 +168,10 @@ pub record StepLeaves (R : Core → Core → Type 0) : Type 0 where
 -- ---- refusals
 
 pub unless_by : (line : ℕ) (refusals : List (Option Reply)) (f : Core → Core) (c : Core) (P : Core → Type 0) → ((refusal : Reply) → P (refuse line refusal c)) → (first refusals ≡ None → P (f c)) → P (unless_refused line refusals f c)
-unless_by line refusals f c P told done = go (first refusals) refl
-  where
-    go : (o : Option Reply) → first refusals ≡ o → P (unless_refused line refusals f c)
-    go (Some refusal) e = rw e (told refusal)
-    go None e = rw e (done e)
+unless_by line refusals f c P told done = unless_why line refusals f c P (λ refusal why. told refusal) done
 
 pub message_by : (line number : ℕ) (f : Message → Core → Core) (c : Core) (P : Core → Type 0) → ((refusal : Reply) → P (refuse line refusal c)) → ((m : Message) → message_at number c.pool ≡ Some m → P (f m c)) → P (with_message line number f c)
-message_by line number f c P told done = go (message_at number c.pool) refl
-  where
-    go : (o : Option Message) → message_at number c.pool ≡ o → P (with_message line number f c)
-    go None e = rw e (told (reply.NoMessage number))
-    go (Some m) e = rw e (done m e)
+message_by line number f c P told done = message_why line number f c P (λ none. told (reply.NoMessage number)) done
 
 -- ---- joined
 
@@ -184,111 +188,62 @@ module _ {R : Core → Core → Type 0} (L : StepLeaves R) where
   keeps_each [] f c h = L.same c
   keeps_each (y ∷ ys) f c h = L.both c (f y c) (each ys f (f y c)) (h y c) (keeps_each ys f (f y c) h)
 
-  keeps_times : (n : ℕ) (f : Core → Core) (c : Core) → ((x : Core) → R x (f x)) → R c (times n f c)
-  keeps_times zero f c h = L.same c
-  keeps_times (suc n) f c h = L.both c (f c) (times n f (f c)) (h c) (keeps_times n f (f c) h)
-
-  -- ---- operations
+  -- ---- operations and entries, by their strokes and acts
 
   keeps_answer : (line : ℕ) (w : Waiting) (told : Reply) (c : Core) → R c (answer line w told c)
   keeps_answer line w told c =
       let one : Core = end_operation line c in
       L.both c one _ (L.operations _ c) (L.both one (note _ _ told one) _ (L.noted _ _ told one) (L.sessions _ (note _ _ told one)))
 
-  keeps_wait : (line : ℕ) (w : Waiting) (what : Wait) (c : Core) → R c (wait_for line w what c)
-  keeps_wait line w what c = L.operations (set_value (is_at (nat_cmp line)) c.operations (record w { wait = what })) c
+  keeps_steps : (a : Core) (e : Option Event) → Steps a e (R a)
+  keeps_steps a e = record {
+    notes = λ of did told c by r. L.both a c _ r (L.noted of did told c);
+    waits = λ line w was c at one r. L.both a c _ r (L.operations _ c);
+    answers = λ line w was told c at one by r. L.both a c _ r (keeps_answer line w told c);
+    proposes = λ line was d shard entry c by offered r. L.both a c _ r (L.proposes shard entry c (plain_taken e d line was (step.Propose entry) by));
+    reads = λ line number w c at waits r. L.both a c _ r (L.reads w.shard number line c);
+  }
 
-  keeps_carry : (line : ℕ) (w : Waiting) (taken : OpStep) (c : Core) → ProposesPlain taken → R c (carry_out line w taken c)
-  keeps_carry line w (step.Answer told) c h = keeps_answer line w told c
-  keeps_carry line w (step.Propose entry) c h = L.both c _ _ (keeps_wait line w _ c) (L.proposes w.shard entry _ h)
-  keeps_carry line w (step.Compare number) c h = L.both c (wait_for line w (wait.Bytes number) c) _ (keeps_wait line w _ c) (L.reads w.shard number line (wait_for line w (wait.Bytes number) c))
-  keeps_carry line w step.Wait c h = keeps_wait line w (what_holds w c) c
+  -- an entry that was handed out, and what is told of it
+  keeps_told : (a : Core) (shard number : ℕ) (entry : Entry) (c : Core) → committed (group_of shard c) ≡ Some (number, entry) → R a (change_group shard take_committed c) → R a (told_at_once shard entry c)
+  keeps_told a shard number entry c next r =
+      let one : Core = change_group shard take_committed c in
+      let two : Core = set_catalogue shard (done_by shard entry c).catalogue one in
+      by_class (keeps_steps a None) (class_of entry) shard (done_by shard entry c).effect (taken shard entry c) (taken_low shard number entry c next)
+      (L.both a two _ (L.both a one two r (L.catalogue shard (done_by shard entry c).catalogue one)) (L.sends shard (done_by shard entry c).effect.sends two))
 
-  keeps_take_step : (line : ℕ) (w : Waiting) (taken : OpStep) (c : Core) → ProposesPlain taken → R c (take_step line w taken c)
-  keeps_take_step line w taken c h = keeps_carry line (record w { operation = after_step taken w.operation }) taken c h
-
-  keeps_go_on : (next : OpView → Operation → OpStep) (line : ℕ) (c : Core) → ((v : OpView) (o : Operation) → ProposesPlain (next v o)) → R c (go_on_with next line c)
-  keeps_go_on next line c h = keeps_with (operation_of line c) (λ w. take_step line w (next (view_for w.shard w.operation.op c) w.operation)) c (λ w x. keeps_take_step line w (next (view_for w.shard w.operation.op c) w.operation) x (h _ _))
-
-  keeps_resume_where : (shard : ℕ) (test : Waiting → Bool) (c : Core) → R c (resume_where shard test c)
-  keeps_resume_where shard test c = keeps_each (lines_where shard test c) resume c (λ line x. keeps_go_on go_step line x plain_step)
+  keeps_runs : (a : Core) → Runs a None ⊥ (R a)
+  keeps_runs a = record {
+    goes = λ line w c at idle r. by_go_on (keeps_steps a None) next.Go [] line c r;
+    views = λ shard c r. L.both a c _ r (L.viewed shard true c);
+    takes = λ shard number entry c next r. keeps_told a shard number entry c next (L.both a c _ r (L.commits shard c));
+    enters = λ shard c urged due r. L.both a c _ r (L.proposes shard _ c ((λ view. refl), refl));
+    once = λ c r never. absurd never;
+  }
 
   pub keeps_begin_line : (line : ℕ) (o : Op) (c : Core) → R (record c { progress = record c.progress { last_line = line } }) (begin_line line o c)
   keeps_begin_line line o c =
       let begun : Core = record c { progress = record c.progress { last_line = line } } in
-      let shard : ℕ = judging_shard (shape_of c).shards c.sessions o in
-      let w : Waiting = record { operation = new_operation line o; shard = shard; wait = wait.View } in
-      let v : OpView = record (view_for shard o begun) { busy = busy_line o c } in
-      L.both begun (add_operation line w begun) _ (L.operations (insert_entry nat_cmp c.operations line w) begun) (keeps_take_step line w (go_step v w.operation) (add_operation line w begun) (plain_step v w.operation))
+      by_line (keeps_steps begun (Some (event.Line line o))) line o c refl (L.operations (insert_entry nat_cmp c.operations line (new_waiting line o c)) begun)
 
   pub keeps_tell_bytes : (line number : ℕ) (bytes : Option (List ℕ)) (c : Core) → R c (tell_bytes line number bytes c)
-  keeps_tell_bytes line number bytes c = keeps_with (operation_of line c) _ c (λ w x. keeps_if _ _ x (λ y. keeps_go_on (λ v o. bytes_step v bytes (pointers_for w.shard w.operation.op y) o) line y (λ v o. plain_bytes v bytes (pointers_for w.shard w.operation.op y) o)))
-
-  -- ---- entries that take effect
+  keeps_tell_bytes line number bytes c =
+      keeps_with (operation_of line c) _ c (λ w x. keeps_if _ _ x (λ y. by_go_on (keeps_steps y None) (next.Bytes bytes) (pointers_for w.shard w.operation.op y) line y (L.same y)))
 
   pub keeps_propose_due : (shard : ℕ) (c : Core) → R c (propose_due shard c)
   keeps_propose_due shard c = keeps_if (is_enter_due shard c) (propose_entry shard (kind.Enter 0 ((catalogue_of shard c).epoch + 1))) c (λ x. L.proposes shard _ x ((λ view. refl), refl))
 
-  keeps_sweep : (shard removed : ℕ) (c : Core) → R c (note_sweep shard removed c)
-  keeps_sweep shard removed c = L.both c _ _ (L.noted _ _ _ c) (keeps_if _ (note _ _ _) _ (λ x. L.noted _ _ _ x))
-
-  keeps_note_enter : (shard : ℕ) (did : What) (c : Core) → R c (note_enter shard did c)
-  keeps_note_enter shard what.Nothing c = L.same c
-  keeps_note_enter shard (what.Viewed view) c = L.same c
-  keeps_note_enter shard what.Stored c = L.same c
-  keeps_note_enter shard what.Marked c = L.same c
-  keeps_note_enter shard what.Again c = L.same c
-  keeps_note_enter shard what.Rooted c = L.same c
-  keeps_note_enter shard what.Dropped c = L.same c
-  keeps_note_enter shard (what.Entered epoch) c = L.noted _ _ _ c
-  keeps_note_enter shard what.Refused c = L.same c
-
-  keeps_tell : (line : ℕ) (did : What) (c : Core) → R c (tell_operation line did c)
-  keeps_tell line did c = keeps_go_on (λ v o. effect_step v did o) line c (λ v o. plain_effect v did o)
-
-  keeps_tell_enter : (shard line : ℕ) (did : What) (c : Core) → R c (tell_enter shard line did c)
-  keeps_tell_enter shard line did c = go (is_some (operation_of line c)) refl
-    where
-      go : (b : Bool) → is_some (operation_of line c) ≡ b → R c (tell_enter shard line did c)
-      go false e = rw e (keeps_note_enter shard did c)
-      go true e = rw e (keeps_tell line did c)
-
-  keeps_view : (shard view : ℕ) (c : Core) → R c (reach_view shard view c)
-  keeps_view shard view c = keeps_if _ (λ x. resume_where shard is_for_view (set_viewed shard true x)) c (λ x. L.both x _ _ (L.viewed shard true x) (keeps_resume_where shard is_for_view _))
-
-  keeps_after : (shard : ℕ) (entry : Entry) (effect : Effect) (c : Core) → R c (after_entry shard entry effect c)
-  keeps_after shard (kind.View view) effect c = keeps_view shard view c
-  keeps_after shard (kind.Block line least bytes) effect c = keeps_tell line effect.what c
-  keeps_after shard (kind.Mark line least block a) effect c = keeps_tell line effect.what c
-  keeps_after shard (kind.Root line held a key) effect c = keeps_tell line effect.what c
-  keeps_after shard (kind.Drop line key) effect c = keeps_tell line effect.what c
-  keeps_after shard (kind.Enter line epoch) effect c = keeps_tell_enter shard line effect.what c
-  keeps_after shard (kind.Got from epoch round total deltas) effect c = L.both c _ _ (keeps_with effect.removed (note_sweep shard) c (λ removed x. keeps_sweep shard removed x)) (keeps_propose_due shard _)
-  keeps_after shard (kind.Base view epoch swept round frames) effect c = L.same c
-  keeps_after shard (kind.KeptBlock born mark flags count bytes) effect c = L.same c
-  keeps_after shard (kind.KeptRoot created dropped counted address key) effect c = L.same c
-  keeps_after shard (kind.KeptRound way other epoch round total deltas) effect c = L.same c
-
   -- what follows when an entry was handed out
-  pub keeps_behind : (shard : ℕ) (entry : Entry) (c : Core) → R (change_group shard take_committed c) (take_effect shard entry c)
-  keeps_behind shard entry c =
-      let a : Option Address = named entry c in
-      let applied : Applied = apply (front_of shard c + 1) entry a (catalogue_of shard c) in
+  pub keeps_behind : (shard number : ℕ) (entry : Entry) (c : Core) → committed (group_of shard c) ≡ Some (number, entry) → R (change_group shard take_committed c) (take_effect shard entry c)
+  keeps_behind shard number entry c next =
       let one : Core = change_group shard take_committed c in
-      let two : Core = set_catalogue shard applied.catalogue one in
-      let three : Core = post (round_messages shard applied.effect.sends) two in
-      let four : Core = after_entry shard entry applied.effect three in
-      L.both one two _ (L.catalogue shard applied.catalogue one) (L.both two three _ (L.sends shard applied.effect.sends two)
-      (L.both three four _ (keeps_after shard entry applied.effect three) (keeps_resume_where shard (wakes entry a four) four)))
-
-  keeps_effect : (shard : ℕ) (entry : Entry) (c : Core) → R c (take_effect shard entry c)
-  keeps_effect shard entry c = L.both c _ _ (L.commits shard c) (keeps_behind shard entry c)
+      by_effect (keeps_runs one) shard number entry c next (keeps_told one shard number entry c next (L.same one))
 
   pub keeps_commit_next : (shard : ℕ) (c : Core) → R c (commit_next shard c)
-  keeps_commit_next shard c = keeps_with (committed (group_of shard c)) (λ (e : ℕ × Entry). take_effect shard e.1) c (λ e y. keeps_effect shard e.1 y)
+  keeps_commit_next shard c = by_next (keeps_runs c) shard c (L.same c)
 
   pub keeps_commits : (shard : ℕ) (c : Core) → R c (commit shard c)
-  keeps_commits shard c = keeps_times (commit_front (group_of shard c) - front_of shard c) (commit_next shard) c (λ x. keeps_commit_next shard x)
+  keeps_commits shard c = by_commit (keeps_runs c) shard c (L.same c)
 
   -- ---- rounds
 
