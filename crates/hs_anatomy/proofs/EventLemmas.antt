@@ -3,7 +3,7 @@ use Rattle.std.proofs.Common.{◌≡◌, ◌∙◌, sym, ap, subst, ℕ, zero, s
 use Rattle.hs_anatomy.proofs.ClassLemmas.{after_is}
 use Rattle.hs_anatomy.proofs.OnceLemmas.{once_acts}
 use Rattle.hs_anatomy.proofs.ReadyLemmas.{AreReady, PassesIdle, ready_on, ready_where, view_idle, wakes_idle}
-use Rattle.hs_anatomy.proofs.StepLemmas.{committed_low, length_set, message_by, unless_by}
+use Rattle.hs_anatomy.proofs.StepLemmas.{committed_low, down_of, length_set, message_by, unless_by}
 use Rattle.hs_anatomy.specs.Acts.{Act, Acts, AndThen, Asks, ByCopying, ByDisk, ByEmptying, ByLine, ByNudge, ByRound, Copies, Empties, Enters, Falls, FindsDown, Gets, Goes, Hands, Hears, IsAnswered, IsAside, IsBehind, IsComing, IsFalling, IsFelled, IsNudged, IsUrged, Joins, Loses, NoAct, Opens, Refuses, Repeats, Reports, Resends, Seals, SendsRound, Starts, Takes, TakesEffect, TellsDown, Views, bytes_report, copied_by, emptied_by, fallen, joined, sealed_by, without_job}
 use Rattle.hs_anatomy.specs.Effect.{Class, OfBase, OfEnter, OfLine, OfRound, OfView, class_of, done_by, goes_class, taken, tells_class, told_at_once}
 use Rattle.hs_anatomy.specs.Once.{AreOnce, IsIdle}
@@ -24,9 +24,9 @@ use Rattle.hs_core_words.specs.Failing.{commit_rest, go_down}
 use Rattle.hs_core_words.specs.Joining.{is_level_with_lead, join, join_if_level, start}
 use Rattle.hs_core_words.specs.Looking.{catalogue_of, first_task, front_of, group_of, home, lead_of, operation_of, shape_of, shards_of, status_of, tasks_of}
 use Rattle.hs_core_words.specs.Opening.{begin_views, note_down, note_if_down}
-use Rattle.hs_core_words.specs.Operating.{go_on_with, lines_where, propose_entry, resume, resume_where}
+use Rattle.hs_core_words.specs.Operating.{begin_line, go_on_with, lines_where, propose_entry, resume, resume_where}
 use Rattle.hs_core_words.specs.Pending.{named}
-use Rattle.hs_core_words.specs.Reporting.{is_reading, on_report, take_report, tell_bytes}
+use Rattle.hs_core_words.specs.Reporting.{is_reading, take_report, tell_bytes}
 use Rattle.hs_core_words.specs.Seeing.{pointers_for}
 use Rattle.hs_core_words.specs.State.{Core}
 use Rattle.hs_core_words.specs.Step.{do_event, line_of}
@@ -39,6 +39,7 @@ use Rattle.hs_desk.specs.declared.job.Job.TheVariants as job
 use Rattle.hs_entry.specs.declared.entry.Entry.{Entry}
 use Rattle.hs_entry.specs.declared.entry.Entry.TheVariants as kind
 use Rattle.hs_journal.specs.declared.entry.Who.TheVariants as who
+use Rattle.hs_limits.specs.declared.limits.PeerStatus.TheVariants.{Down}
 use Rattle.hs_members.specs.Members.{all_peers, has_good, is_good_status}
 use Rattle.hs_model.specs.declared.deed.Deed.TheVariants as deed
 use Rattle.hs_model.specs.declared.op.Op.{Op}
@@ -122,7 +123,7 @@ module _ {s : Core} {e : Option Event} {Once : Type 0} {P : Core → Type 0} (R 
       go : (b : Bool) → P (change_if b (λ x. resume_where shard is_for_view (set_viewed shard true x)) c)
       go true = by_where shard is_for_view view_idle (set_viewed shard true c) (R.views shard c p)
       go false = p
-  by_class OfRound shard c urged p = due_by shard c (λ due. R.enters shard c (urged refl) due p) p
+  by_class OfRound shard c urged p = due_by {P = P} shard c (λ due. R.enters shard c (urged refl) due p) p
   by_class OfBase shard c urged p = p
 
   -- an entry takes effect, from what is told of it on
@@ -176,7 +177,7 @@ module _ {s : Core} {e : Option Event} where
   -- ---- a due Enter
 
   due_acts : (shard : ℕ) (c : Core) → IsUrged s e c shard → Acts s e c → Acts s e (propose_due shard c)
-  due_acts shard c urged xs = due_by shard c (λ due. AndThen xs (Enters shard urged due)) xs
+  due_acts shard c urged xs = due_by {P = Acts s e} shard c (λ due. AndThen xs (Enters shard urged due)) xs
 
   -- ---- a nudge
 
@@ -299,59 +300,62 @@ module _ {s : Core} {e : Option Event} where
         let told : Core = note who.Store deed.Nothing (reply.Down disk x.progress.event_line) x in
         down_acts disk told (falling_by c disk told (ByDisk peer known.reported) known.start refl refl refl) (AndThen (AndThen xs (IsAside (Reports peer (done.Failed disk) known))) (TellsDown peer disk known.reported))
 
-    report_acts : (peer : ℕ) (d : Done) (c : Core) → c ≡ s → e ≡ Some (event.Report peer d) → Acts s e c → Acts s e (on_report peer d c)
-    report_acts peer d c start reported xs = go (first_task peer c) refl
-      where
-        answered : (task : Task) → first_task peer c ≡ Some task → (b : Bool) → answers peer task.job d ≡ b → Acts s e (change_if b (λ x. take_report peer task.line d (set_tasks peer (drop 1 (tasks_of peer x)) x)) c)
-        answered task first true fits = done_acts peer d c (record { start = start; reported = reported; task = task; first = first; fits = fits }) xs
-        answered task first false fits = xs
-
-        go : (o : Option Task) → first_task peer c ≡ o → Acts s e (change_with o (λ task. change_if (answers peer task.job d) (λ x. take_report peer task.line d (set_tasks peer (drop 1 (tasks_of peer x)) x))) c)
-        go None first = xs
-        go (Some task) first = answered task first (answers peer task.job d) refl
-
 -- ---- events
 
-module _ (s : Core) where
-  again_acts : (line number : ℕ) (m : Message) → message_at number s.pool ≡ Some m → Acts s (Some (event.Repeat line number)) (send_again line m s)
-  again_acts line number m at = go (is_full s.pool) refl
-    where
-      go : (b : Bool) → is_full s.pool ≡ b → Acts s (Some (event.Repeat line number)) (cond b (refuse line (reply.PoolFull s.pool.limit) s) (post (m ∷ []) s))
-      go true full = AndThen NoAct (Refuses (event.Repeat line number) (reply.PoolFull s.pool.limit) refl (rw (at, full) refl))
-      go false room = AndThen NoAct (IsAside (Repeats number m at room))
+-- what is so behind an event where each of its kinds leaves it so
+pub record Does (s : Core) (x : Event) (P : Core → Type 0) : Type 0 where
+  pub same : P s
+  pub refuses : (r : Reply) → refusal_in x s ≡ Some r → P (refuse (line_of x) r s)
+  pub asks : (line : ℕ) (o : Op) → x ≡ event.Line line o → P (begin_line line o s)
+  pub reports : (peer : ℕ) (d : Done) (known : IsAnswered s (Some x) s peer d) → P (take_report peer known.task.line d (without_job peer s))
+  pub comes : (number : ℕ) (m : Message) → IsComing s (Some x) s number m → P (deliver number m s)
+  pub loses : (number : ℕ) (m : Message) → message_at number s.pool ≡ Some m → P (lose number m s)
+  pub repeats : (number : ℕ) (m : Message) → message_at number s.pool ≡ Some m → is_full s.pool ≡ false → P (post (m ∷ []) s)
+  pub nudges : (peer : ℕ) → IsNudged s (Some x) (home peer s) peer → P (nudge peer s)
+  pub falls : (line peer : ℕ) → x ≡ event.Fail line peer → refusal_in (event.Fail line peer) s ≡ None → P (go_down peer s)
+  pub starts : (line peer : ℕ) → x ≡ event.Start line peer → refusal_in (event.Start line peer) s ≡ None → status_of peer s ≡ Down → P (start peer s)
 
-  good_acts : (line peer : ℕ) → Acts s (Some (event.Nudge line peer)) (nudge_good peer s)
-  good_acts line peer = go (is_good_status (status_of peer s)) refl
-    where
-      go : (b : Bool) → is_good_status (status_of peer s) ≡ b → Acts s (Some (event.Nudge line peer)) (change_if b (nudge peer) s)
-      go true good = nudge_acts peer s (record { line = line; asked = refl; good = good; home = refl }) NoAct
-      go false bad = NoAct
+pub does_by : (s : Core) (x : Event) (P : Core → Type 0) → Does s x P → P (do_event x s)
+does_by s (event.Line line o) P D = D.asks line o refl
+does_by s (event.Report peer d) P D = go (first_task peer s) refl
+  where
+    answered : (task : Task) → first_task peer s ≡ Some task → (b : Bool) → answers peer task.job d ≡ b → P (change_if b (λ c. take_report peer task.line d (set_tasks peer (drop 1 (tasks_of peer c)) c)) s)
+    answered task first true fits = D.reports peer d (record { start = refl; reported = refl; task = task; first = first; fits = fits })
+    answered task first false fits = D.same
 
-  refused : (x : Event) (r : Reply) → refusal_in x s ≡ Some r → Acts s (Some x) (refuse (line_of x) r s)
-  refused x r why = AndThen NoAct (Refuses x r refl why)
+    go : (o : Option Task) → first_task peer s ≡ o → P (change_with o (λ task. change_if (answers peer task.job d) (λ c. take_report peer task.line d (set_tasks peer (drop 1 (tasks_of peer c)) c))) s)
+    go None first = D.same
+    go (Some task) first = answered task first (answers peer task.job d) refl
+does_by s (event.Turn line peer) P D = unless_by line (no_peer peer s ∷ not_up peer s ∷ []) (λ core. core) s P D.refuses (λ none. D.same)
+does_by s (event.Deliver line number) P D =
+    message_by line number (deliver number) s P (λ none. D.refuses (reply.NoMessage number) (rw none refl)) (λ m at. D.comes number m (record { start = refl; line = line; delivered = refl; at = at }))
+does_by s (event.Lose line number) P D = message_by line number (lose number) s P (λ none. D.refuses (reply.NoMessage number) (rw none refl)) (λ m at. D.loses number m at)
+does_by s (event.Repeat line number) P D = message_by line number (send_again line) s P (λ none. D.refuses (reply.NoMessage number) (rw none refl)) (λ m at. go m at (is_full s.pool) refl)
+  where
+    go : (m : Message) → message_at number s.pool ≡ Some m → (b : Bool) → is_full s.pool ≡ b → P (cond b (refuse line (reply.PoolFull s.pool.limit) s) (post (m ∷ []) s))
+    go m at true full = D.refuses (reply.PoolFull s.pool.limit) (rw (at, full) refl)
+    go m at false room = D.repeats number m at room
+does_by s (event.Nudge line peer) P D = unless_by line (no_peer peer s ∷ not_up peer s ∷ []) (nudge_good peer) s P D.refuses (λ none. go (is_good_status (status_of peer s)) refl)
+  where
+    go : (b : Bool) → is_good_status (status_of peer s) ≡ b → P (change_if b (nudge peer) s)
+    go true good = D.nudges peer (record { line = line; asked = refl; good = good; home = refl })
+    go false bad = D.same
+does_by s (event.Fail line peer) P D = unless_by line (no_peer peer s ∷ not_up peer s ∷ []) (go_down peer) s P D.refuses (λ none. D.falls line peer refl none)
+does_by s (event.Start line peer) P D = unless_by line (no_peer peer s ∷ not_down peer s ∷ []) (start peer) s P D.refuses (λ none. D.starts line peer refl none (down_of peer s none))
 
-  pub does_acts : (x : Event) → Acts s (Some x) (do_event x s)
-  does_acts (event.Line line o) = AndThen NoAct (Asks line o refl refl)
-  does_acts (event.Report peer d) = report_acts (λ line o is. cc is) peer d s refl refl NoAct
-  does_acts (event.Turn line peer) =
-      unless_by line (no_peer peer s ∷ not_up peer s ∷ []) (λ core. core) s (λ c. Acts s (Some (event.Turn line peer)) c) (λ r why. refused (event.Turn line peer) r why) (λ none. NoAct)
-  does_acts (event.Deliver line number) =
-      message_by line number (deliver number) s (λ c. Acts s (Some (event.Deliver line number)) c) (λ none. refused (event.Deliver line number) (reply.NoMessage number) (rw none refl))
-      (λ m at. message_acts (λ l o is. cc is) number m s (record { start = refl; line = line; delivered = refl; at = at }) NoAct)
-  does_acts (event.Lose line number) =
-      message_by line number (lose number) s (λ c. Acts s (Some (event.Lose line number)) c) (λ none. refused (event.Lose line number) (reply.NoMessage number) (rw none refl))
-      (λ m at. AndThen NoAct (IsAside (Loses number m at)))
-  does_acts (event.Repeat line number) =
-      message_by line number (send_again line) s (λ c. Acts s (Some (event.Repeat line number)) c) (λ none. refused (event.Repeat line number) (reply.NoMessage number) (rw none refl))
-      (λ m at. again_acts line number m at)
-  does_acts (event.Nudge line peer) =
-      unless_by line (no_peer peer s ∷ not_up peer s ∷ []) (nudge_good peer) s (λ c. Acts s (Some (event.Nudge line peer)) c) (λ r why. refused (event.Nudge line peer) r why) (λ none. good_acts line peer)
-  does_acts (event.Fail line peer) =
-      unless_by line (no_peer peer s ∷ not_up peer s ∷ []) (go_down peer) s (λ c. Acts s (Some (event.Fail line peer)) c) (λ r why. refused (event.Fail line peer) r why)
-      (λ none. down_acts (λ l o is. cc is) peer s (record { why = ByLine line refl none; members = refl; lists = refl; catalogues = refl }) NoAct)
-  does_acts (event.Start line peer) =
-      unless_by line (no_peer peer s ∷ not_down peer s ∷ []) (start peer) s (λ c. Acts s (Some (event.Start line peer)) c) (λ r why. refused (event.Start line peer) r why)
-      (λ none. AndThen NoAct (IsAside (Starts line peer refl refl none)))
+pub does_acts : (s : Core) (x : Event) → Acts s (Some x) (do_event x s)
+does_acts s x = does_by s x (Acts s (Some x)) (record {
+  same = NoAct;
+  refuses = λ r why. AndThen NoAct (Refuses x r refl why);
+  asks = λ line o is. AndThen NoAct (Asks line o refl (ap Some is));
+  reports = λ peer d known. done_acts (λ l o is. cc (sym known.reported ∙ is)) peer d s known NoAct;
+  comes = λ number m known. message_acts (λ l o is. cc (sym known.delivered ∙ is)) number m s known NoAct;
+  loses = λ number m at. AndThen NoAct (IsAside (Loses number m at));
+  repeats = λ number m at room. AndThen NoAct (IsAside (Repeats number m at room));
+  nudges = λ peer known. nudge_acts peer s known NoAct;
+  falls = λ line peer is none. down_acts (λ l o asked. cc (sym (ap Some is) ∙ asked)) peer s (record { why = ByLine line (ap Some is) none; members = refl; lists = refl; catalogues = refl }) NoAct;
+  starts = λ line peer is none down. AndThen NoAct (IsAside (Starts line peer refl (ap Some is) none));
+})
 
 -- ---- the opening
 

@@ -11,13 +11,16 @@ use Rattle.hs_core_words.specs.declared.event.Event.{Event}
 use Rattle.hs_core_words.specs.declared.event.Event.TheVariants as event
 use Rattle.hs_core_words.specs.Failing.{go_down}
 use Rattle.hs_core_words.specs.Joining.{start}
-use Rattle.hs_core_words.specs.Looking.{group_of, shape_of}
+use Rattle.hs_core_words.specs.Looking.{group_of, shape_of, status_of}
 use Rattle.hs_core_words.specs.State.{Core}
 use Rattle.hs_core_words.specs.Step.{begin_event, do_event, end_event, line_of, run_event, step}
 use Rattle.hs_entry.specs.declared.entry.Entry.{Entry}
 use Rattle.hs_model.specs.declared.reply.Reply.{Reply}
 use Rattle.hs_model.specs.declared.reply.Reply.TheVariants as reply
-use Rattle.hs_model.specs.Refusals.{first}
+use Rattle.hs_limits.specs.declared.limits.PeerStatus.{PeerStatus}
+use Rattle.hs_limits.specs.declared.limits.PeerStatus.TheVariants.{Down, Good, Joining}
+use Rattle.hs_members.specs.Members.{is_down}
+use Rattle.hs_model.specs.Refusals.{first, refused_when}
 use Rattle.hs_post.specs.declared.message.Message.{Message}
 use Rattle.hs_post.specs.Pool.{is_empty, is_full, message_at, restart_numbers}
 use Rattle.hs_replica.specs.Group.{Group, committed, new_group}
@@ -42,6 +45,16 @@ unless_by line refusals f c P told done = go (first refusals) refl
     go : (o : Option Reply) → first refusals ≡ o → P (unless_refused line refusals f c)
     go (Some refusal) e = rw e (told refusal e)
     go None e = rw e (done e)
+
+-- a peer that may start is down
+pub down_of : (peer : ℕ) (c : Core) → first (no_peer peer c ∷ not_down peer c ∷ []) ≡ None → status_of peer c ≡ Down
+down_of peer c none = go (no_peer peer c) (status_of peer c) refl none
+  where
+    go : (o : Option Reply) (x : PeerStatus) → status_of peer c ≡ x → first (o ∷ not_down peer c ∷ []) ≡ None → status_of peer c ≡ Down
+    go (Some r) x f i = absurd (cc i)
+    go None Down f i = f
+    go None Good f i = absurd (cc (sym (ap (λ s. first (None ∷ refused_when (not (is_down s)) (reply.NotDown peer) ∷ [])) f) ∙ i))
+    go None Joining f i = absurd (cc (sym (ap (λ s. first (None ∷ refused_when (not (is_down s)) (reply.NotDown peer) ∷ [])) f) ∙ i))
 
 by_first : (line : ℕ) (refusals : List (Option Reply)) (f : Core → Core) (r : Reply) (c : Core) → first refusals ≡ Some r → unless_refused line refusals f c ≡ refuse line r c
 by_first line refusals f r c why = rw why refl

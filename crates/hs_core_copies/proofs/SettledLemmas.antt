@@ -2,22 +2,22 @@
 use Rattle.std.proofs.Common.{◌≡◌, ◌≢◌, ◌⊎◌, ◌∙◌, ap, sym, subst, refl, inl, inr, arith, ℕ, ◌≤◌, Bool, true, false, if◌then◌else◌, [], ◌∷◌, Option, Some, None}
 use Rattle.std.proofs.lemmas.Bool.{cases_eq}
 use Rattle.std.specs.Prelude.{drop}
+use Rattle.hs_anatomy.proofs.EventLemmas.{does_by}
 use Rattle.hs_awaiting.specs.Words.{change_if, change_with, each, ◌▸◌}
 use Rattle.hs_copies.specs.Lists.{IsAmong}
 use Rattle.hs_copies.specs.Machine.{Copies, after_events}
-use Rattle.hs_core_words.specs.Asking.{deliver, lose, no_peer, not_down, not_up, nudge, nudge_good, send_again, send_rounds}
-use Rattle.hs_core_words.specs.Changing.{add_entry_tasks, change_group, change_pool, change_rejoin, note, post, refuse, set_rejoin, set_status, set_tasks}
+use Rattle.hs_core_words.specs.Asking.{deliver, nudge, send_rounds}
+use Rattle.hs_core_words.specs.Changing.{add_entry_tasks, change_group, change_pool, change_rejoin, note, post, set_rejoin, set_status, set_tasks}
 use Rattle.hs_core_words.specs.declared.event.Event.{Event}
-use Rattle.hs_core_words.specs.declared.event.Event.TheVariants as event
 use Rattle.hs_core_words.specs.declared.task.Task.{Task}
 use Rattle.hs_core_words.specs.Delivering.{handle, is_new_round, on_copy, take_copy, take_have}
 use Rattle.hs_core_words.specs.Effects.{commit}
 use Rattle.hs_core_words.specs.Entering.{propose_due}
 use Rattle.hs_core_words.specs.Failing.{commit_rest, fail_disk, go_down, leave}
-use Rattle.hs_core_words.specs.Joining.{begin_joining, follow_lead, is_level_with_lead, join, join_if_level, joining_peers, start}
+use Rattle.hs_core_words.specs.Joining.{begin_joining, follow_lead, is_level_with_lead, join, join_if_level, joining_peers}
 use Rattle.hs_core_words.specs.Looking.{first_task, front_of, group_of, home, lead_of, status_of, tasks_of}
 use Rattle.hs_core_words.specs.Operating.{begin_line, propose_entry}
-use Rattle.hs_core_words.specs.Reporting.{on_report, take_copied, take_emptied, take_report, take_sealed, tell_bytes}
+use Rattle.hs_core_words.specs.Reporting.{take_copied, take_emptied, take_report, take_sealed, tell_bytes}
 use Rattle.hs_core_words.specs.State.{Core}
 use Rattle.hs_core_words.specs.Step.{do_event}
 use Rattle.hs_core_words.specs.Views.{begin_view, change_view}
@@ -32,11 +32,10 @@ use Rattle.hs_limits.specs.declared.limits.PeerStatus.{PeerStatus}
 use Rattle.hs_limits.specs.declared.limits.PeerStatus.TheVariants.{Down, Good, Joining}
 use Rattle.hs_members.specs.Members.{become, has_good, home_of, is_good_status}
 use Rattle.hs_model.specs.declared.deed.Deed.TheVariants as deed
-use Rattle.hs_model.specs.declared.reply.Reply.{Reply}
 use Rattle.hs_model.specs.declared.reply.Reply.TheVariants as reply
 use Rattle.hs_post.specs.declared.message.Message.{Message}
 use Rattle.hs_post.specs.declared.message.Message.TheVariants as message
-use Rattle.hs_post.specs.Pool.{is_full, message_at, without}
+use Rattle.hs_post.specs.Pool.{message_at, without}
 use Rattle.hs_rejoin.specs.Rejoin.{emptied, copied, follow}
 use Rattle.hs_replica.specs.Group.{Group, commit_front, have, is_peer, lead, on_copied, on_emptied, on_have, on_sealed, take_entry, takes}
 use Rattle.hs_core_copies.proofs.GoingLemmas.{Goes, Keeps}
@@ -51,7 +50,7 @@ use Rattle.hs_core_copies.proofs.StepLemmas.{lead_in_step}
 use Rattle.hs_core_copies.proofs.StillLemmas.{IsStill, still_both, still_change, still_copied, still_emptied, still_group, still_proposes, still_takes, steps_still}
 use Rattle.hs_core_copies.proofs.UpLemmas.{commit_up}
 use Rattle.hs_core_copies.proofs.ViewLemmas.{views_apart}
-use Rattle.hs_core_copies.proofs.WalkLemmas.{keeps_begin_line, keeps_commits, keeps_each, keeps_if, keeps_propose_due, keeps_send_rounds, keeps_tell_bytes, message_by, unless_by}
+use Rattle.hs_core_copies.proofs.WalkLemmas.{keeps_begin_line, keeps_commits, keeps_each, keeps_if, keeps_propose_due, keeps_send_rounds, keeps_tell_bytes}
 use Rattle.hs_core_copies.specs.InStep.{IsInStep, IsOf, IsSeated, IsUnderWay, IsWithin}
 
 -- all that is known of every good peer took effect
@@ -279,25 +278,13 @@ settles_other g p line (done.Copied number) c n s st up =
 settles_other g p line (done.Stepped switched) c n s st up = inl up
 settles_other g p line (done.Failed disk) c n s st up = fails_settle g disk c s st up
 
-reports_settle : (g p : ℕ) (d : Done) (c : Core) → Settles g c (on_report p d c)
-reports_settle g p d c s st up = go (first_task p c) refl
-  where
-    taken : (task : Task) → first_task p c ≡ Some task → answers p task.job d ≡ true
-        → IsUp g (take_report p task.line d (set_tasks p (drop 1 (tasks_of p c)) c)) ⊎ IsLost g (take_report p task.line d (set_tasks p (drop 1 (tasks_of p c)) c))
-    taken task e a = elim (cases_eq (home_of c.members.shape p) g) [
-      | inl own ↦ settles_own g p c s st own task e up d a
-      | inr n ↦
-          let c1 : Core = set_tasks p (drop 1 (tasks_of p c)) c in
-          settles_then g c c1 (take_report p task.line d c1) (rests_apart g p c n) (still_group g c c1 refl) (settles_other g p task.line d c1 n) s st up
-    ]
-
-    go : (o : Option Task) → first_task p c ≡ o → IsUp g (on_report p d c) ⊎ IsLost g (on_report p d c)
-    go None e = rw e (inl up)
-    go (Some task) e = answered (answers p task.job d) refl
-      where
-        answered : (b : Bool) → answers p task.job d ≡ b → IsUp g (on_report p d c) ⊎ IsLost g (on_report p d c)
-        answered true a = rw (e, a) (taken task e a)
-        answered false a = rw (e, a) (inl up)
+reports_settle : (g p : ℕ) (d : Done) (c : Core) (task : Task) → first_task p c ≡ Some task → answers p task.job d ≡ true → Settles g c (take_report p task.line d (set_tasks p (drop 1 (tasks_of p c)) c))
+reports_settle g p d c task e a s st up = elim (cases_eq (home_of c.members.shape p) g) [
+  | inl own ↦ settles_own g p c s st own task e up d a
+  | inr n ↦
+      let c1 : Core = set_tasks p (drop 1 (tasks_of p c)) c in
+      settles_then g c c1 (take_report p task.line d c1) (rests_apart g p c n) (still_group g c c1 refl) (settles_other g p task.line d c1 n) s st up
+]
 
 -- ---- messages
 
@@ -342,45 +329,32 @@ delivers_settle g number m c at s st up =
     inl (handles_up g m (change_pool (without number) c) s (thinned g c s (without number c.pool) (taken_out number c.pool) st)
     (message_has (IsWithin c.members.shape) number c.pool m at st.seated.within) (message_has (IsUnderWay g st.sent) number c.pool m at st.under_way) up)
 
-again_still : (g line : ℕ) (m : Message) (c : Core) → IsStill g c (send_again line m c)
-again_still g line m c = go (is_full c.pool)
-  where
-    go : (b : Bool) → IsStill g c (if b then refuse line (reply.PoolFull c.pool.limit) c else post (m ∷ []) c)
-    go true = still_group g c (refuse line (reply.PoolFull c.pool.limit) c) refl
-    go false = still_group g c (post (m ∷ []) c) refl
-
--- ---- a nudge
-
-nudge_still : (g p : ℕ) (c : Core) → IsStill g c (nudge_good p c)
-nudge_still g p c = go (is_good_status (status_of p c))
-  where
-    nudged : IsStill g c (nudge p c)
-    nudged =
-        let x : ℕ = home p c in
-        let c1 : Core = change_if (is_peer p (lead_of x c)) (λ core. core ▸ propose_due x ▸ send_rounds x) c in
-        still_both g c c1 (nudge p c)
-        (keeps_if (steps_still g) (is_peer p (lead_of x c)) (λ core. core ▸ propose_due x ▸ send_rounds x) c
-        (λ y. still_both g y (propose_due x y) (send_rounds x (propose_due x y)) (keeps_propose_due (steps_still g) x y) (keeps_send_rounds (steps_still g) x (propose_due x y))))
-        (still_group g c1 (nudge p c) refl)
-
-    go : (b : Bool) → IsStill g c (change_if b (nudge p) c)
-    go true = nudged
-    go false = still_group g c c refl
-
 -- ---- events
 
-refuses_still : (g line : ℕ) (c : Core) (r : Reply) → IsStill g c (refuse line r c)
-refuses_still g line c r = still_group g c (refuse line r c) refl
+nudge_still : (g p : ℕ) (c : Core) → IsStill g c (nudge p c)
+nudge_still g p c =
+    let x : ℕ = home p c in
+    let c1 : Core = change_if (is_peer p (lead_of x c)) (λ core. core ▸ propose_due x ▸ send_rounds x) c in
+    still_both g c c1 (nudge p c)
+    (keeps_if (steps_still g) (is_peer p (lead_of x c)) (λ core. core ▸ propose_due x ▸ send_rounds x) c
+    (λ y. still_both g y (propose_due x y) (send_rounds x (propose_due x y)) (keeps_propose_due (steps_still g) x y) (keeps_send_rounds (steps_still g) x (propose_due x y))))
+    (still_group g c1 (nudge p c) refl)
 
 pub does_settle : (g : ℕ) (e : Event) (c : Core) → Settles g c (do_event e c)
-does_settle g (event.Line line o) c =
-    let a : Core = record c { progress = record c.progress { last_line = line } } in
-    settles_still g c (begin_line line o c) (still_both g c a (begin_line line o c) (still_group g c a refl) (keeps_begin_line (steps_still g) line o c))
-does_settle g (event.Report p d) c = reports_settle g p d c
-does_settle g (event.Turn line p) c = settles_still g c _ (unless_by line (no_peer p c ∷ not_up p c ∷ []) (λ core. core) c (IsStill g c) (refuses_still g line c) (λ e. still_group g c c refl))
-does_settle g (event.Deliver line number) c = message_by line number (deliver number) c (Settles g c) (λ r. settles_still g c (refuse line r c) (refuses_still g line c r)) (λ m at. delivers_settle g number m c at)
-does_settle g (event.Lose line number) c = settles_still g c _ (message_by line number (lose number) c (IsStill g c) (refuses_still g line c) (λ m at. still_group g c (lose number m c) refl))
-does_settle g (event.Repeat line number) c = settles_still g c _ (message_by line number (send_again line) c (IsStill g c) (refuses_still g line c) (λ m at. again_still g line m c))
-does_settle g (event.Nudge line p) c = settles_still g c _ (unless_by line (no_peer p c ∷ not_up p c ∷ []) (nudge_good p) c (IsStill g c) (refuses_still g line c) (λ e. nudge_still g p c))
-does_settle g (event.Fail line p) c = unless_by line (no_peer p c ∷ not_up p c ∷ []) (go_down p) c (Settles g c) (λ r. settles_still g c (refuse line r c) (refuses_still g line c r)) (λ e. falls_settle g p c)
-does_settle g (event.Start line p) c = settles_still g c _ (unless_by line (no_peer p c ∷ not_down p c ∷ []) (start p) c (IsStill g c) (refuses_still g line c) (λ e. still_group g c (start p c) refl))
+does_settle g e c s st up = does_by c e (λ y. IsUp g y ⊎ IsLost g y) (record {
+  same = inl up;
+  refuses = λ r why. by_still (still_group g c _ refl);
+  asks = λ line o is.
+      let a : Core = record c { progress = record c.progress { last_line = line } } in
+      by_still (still_both g c a (begin_line line o c) (still_group g c a refl) (keeps_begin_line (steps_still g) line o c));
+  reports = λ p d known. reports_settle g p d c known.task known.first known.fits s st up;
+  comes = λ number m known. delivers_settle g number m c known.at s st up;
+  loses = λ number m at. by_still (still_group g c _ refl);
+  repeats = λ number m at room. by_still (still_group g c _ refl);
+  nudges = λ p known. by_still (nudge_still g p c);
+  falls = λ line p is none. falls_settle g p c s st up;
+  starts = λ line p is none down. by_still (still_group g c _ refl);
+})
+  where
+    by_still : {b : Core} → IsStill g c b → IsUp g b ⊎ IsLost g b
+    by_still {b = b} h = inl (up_still g c b h up)

@@ -10,9 +10,10 @@ use Rattle.std.specs.Map.{values_of}
 use Rattle.std.specs.Option.{option_map}
 use Rattle.std.specs.Ordering.{nat_cmp}
 use Rattle.std.specs.Prelude.{IfSome, find, if◌then◌else◌}
+use Rattle.hs_anatomy.proofs.EventLemmas.{does_by}
 use Rattle.hs_awaiting.specs.Words.{change_if, each, ◌▸◌}
-use Rattle.hs_core_words.specs.Asking.{deliver, lose, no_peer, not_down, not_up, nudge, nudge_good, send_again, send_rounds}
-use Rattle.hs_core_words.specs.Changing.{change_pool, post, refuse}
+use Rattle.hs_core_words.specs.Asking.{deliver, no_peer, not_down, not_up, nudge, send_rounds}
+use Rattle.hs_core_words.specs.Changing.{change_pool, post}
 use Rattle.hs_core_words.specs.declared.event.Event.{Event}
 use Rattle.hs_core_words.specs.declared.event.Event.TheVariants as event
 use Rattle.hs_core_words.specs.Delivering.{handle, is_new_round}
@@ -31,13 +32,13 @@ use Rattle.hs_entry.specs.declared.entry.Entry.TheVariants as kind
 use Rattle.hs_limits.specs.declared.limits.PeerStatus.{PeerStatus}
 use Rattle.hs_limits.specs.declared.limits.PeerStatus.TheVariants.{Good, Joining, Down}
 use Rattle.hs_limits.specs.declared.shape.Shape.{Shape}
-use Rattle.hs_members.specs.Members.{Members, has_good, is_down, is_good_status, peers_of, status}
+use Rattle.hs_members.specs.Members.{Members, has_good, is_good_status, peers_of, status}
 use Rattle.hs_model.specs.declared.reply.Reply.{Reply}
 use Rattle.hs_model.specs.declared.reply.Reply.TheVariants as reply
 use Rattle.hs_model.specs.Refusals.{first, refused_when}
 use Rattle.hs_post.specs.declared.message.Message.{Message}
 use Rattle.hs_post.specs.declared.message.Message.TheVariants as message
-use Rattle.hs_post.specs.Pool.{is_empty, is_full, message_at, restart_numbers, send, without}
+use Rattle.hs_post.specs.Pool.{is_empty, message_at, restart_numbers, send, without}
 use Rattle.hs_replica.specs.Group.{is_peer, resend}
 use Rattle.hs_events.specs.Asked.{report_in}
 use Rattle.hs_events.specs.Alone.{AreAlone, face, is_round}
@@ -46,7 +47,7 @@ pub use Rattle.hs_anatomy.specs.Acts.{begun}
 use Rattle.hs_moments.proofs.AloneLemmas.{resend_alone}
 use Rattle.hs_moments.proofs.AloneStepLemmas.{proposes, sends_rounds, steps_go_on}
 use Rattle.hs_moments.proofs.MoveLemmas.{Moves, moves_both, moves_pool, moves_same}
-use Rattle.hs_core_copies.proofs.WalkLemmas.{keeps_begin_line, keeps_if, keeps_propose_due, keeps_send_rounds, message_by, unless_by}
+use Rattle.hs_core_copies.proofs.WalkLemmas.{keeps_begin_line, keeps_if, keeps_propose_due, keeps_send_rounds}
 
 -- ---- peers
 
@@ -71,17 +72,6 @@ up_within c p rest h e = elim (cases_lt p c.members.shape.shards) [
       let bad : Some (reply.NoPeer p) ≡ None = ap (λ b. first (refused_when b (reply.NoPeer p) ∷ rest)) (sym past) ∙ e in cc
 ]
 
--- and no peer is down
-none_down : (c : Core) (p : ℕ) → AreAlone (face c) → first (no_peer p c ∷ not_down p c ∷ []) ≡ None → ⊥
-none_down c p h e =
-    let low = up_within c p (not_down p c ∷ []) h e in
-    let up : not_down p c ≡ Some (reply.NotDown p) = ap (λ s. refused_when (not (is_down s)) (reply.NotDown p)) (h.good p low) in
-    refused (no_peer p c) (ap (λ o. first (no_peer p c ∷ o ∷ [])) (sym up) ∙ e)
-  where
-    refused : (o : Option Reply) → first (o ∷ Some (reply.NotDown p) ∷ []) ≡ None → ⊥
-    refused None bad = cc
-    refused (Some r) bad = cc
-
 -- ---- messages
 
 round_at : (c : Core) (number : ℕ) (m : Message) → AreAlone (face c) → message_at number c.pool ≡ Some m → is_round m ≡ true
@@ -100,13 +90,8 @@ delivers number m c h at =
     let one : Moves (face c) (face (change_pool (without number) c)) = taken_out c number h in
     moves_both (face c) (face (change_pool (without number) c)) (face (deliver number m c)) one (handles m (change_pool (without number) c) (round_at c number m h at) one.alone)
 
-sends_again : (line number : ℕ) (m : Message) (c : Core) → AreAlone (face c) → message_at number c.pool ≡ Some m → Moves (face c) (face (send_again line m c))
-sends_again line number m c h at = go (is_full c.pool) refl
-  where
-    go : (b : Bool) → is_full c.pool ≡ b → Moves (face c) (face (send_again line m c))
-    go true e = subst (λ (b : Bool). Moves (face c) (face (if b then refuse line (reply.PoolFull c.pool.limit) c else post (m ∷ []) c))) (sym e) (moves_same (face c) h)
-    go false e = subst (λ (b : Bool). Moves (face c) (face (if b then refuse line (reply.PoolFull c.pool.limit) c else post (m ∷ []) c))) (sym e)
-        (moves_pool (face c) (send m c.pool) h (sends_rounds (m ∷ []) c.pool (All-cons (λ m. is_round m ≡ true) m [] (round_at c number m h at) (All-nil (λ m. is_round m ≡ true))) h.rounds))
+sends_again : (number : ℕ) (m : Message) (c : Core) → AreAlone (face c) → message_at number c.pool ≡ Some m → Moves (face c) (face (post (m ∷ []) c))
+sends_again number m c h at = moves_pool (face c) (send m c.pool) h (sends_rounds (m ∷ []) c.pool (All-cons (λ m. is_round m ≡ true) m [] (round_at c number m h at) (All-nil (λ m. is_round m ≡ true))) h.rounds)
 
 -- ---- a nudge
 
@@ -118,13 +103,6 @@ nudges p c h low =
     let here : p < x.members.shape.shards = subst (λ (m : Members). p < m.shape.shards) (sym one.members) low in
     let silent : resend p (group_of s x) ≡ [] = ap (λ k. resend p (group_of k x)) (home_here c p h.copies) ∙ resend_alone x.members.shape p (group_of p x) one.alone.copies (one.alone.each p here) in
     moves_both (face c) (face x) (face (nudge p c)) one (subst (λ (ms : List Message). Moves (face x) (face (post ms x))) (sym silent) (moves_same (face x) one.alone))
-
-nudges_good : (p : ℕ) (c : Core) → AreAlone (face c) → Moves (face c) (face (nudge_good p c))
-nudges_good p c h = go (is_good_status (status_of p c)) refl
-  where
-    go : (b : Bool) → is_good_status (status_of p c) ≡ b → Moves (face c) (face (nudge_good p c))
-    go true e = subst (λ b. Moves (face c) (face (change_if b (nudge p) c))) (sym e) (nudges p c h (good_within c p h e))
-    go false e = subst (λ b. Moves (face c) (face (change_if b (nudge p) c))) (sym e) (moves_same (face c) h)
 
 -- ---- a peer goes down
 
@@ -224,15 +202,21 @@ no_report : (r : ℕ × Done) → Some r ≡ None → ⊥
 no_report r bad = cc
 
 pub quiet : (e : Event) (c : Core) → AreAlone (face c) → report_in e ≡ None → Happens c (do_event e c)
-quiet (event.Line line o) c h q = inl (keeps_begin_line steps_go_on line o c h)
-quiet (event.Report p d) c h q = absurd (no_report (p, d) q)
-quiet (event.Turn line p) c h q = unless_by line (no_peer p c ∷ not_up p c ∷ []) (λ core. core) c (Happens c) (λ r. inl (moves_same (face c) h)) (λ e. inl (moves_same (face c) h))
-quiet (event.Deliver line number) c h q = message_by line number (deliver number) c (Happens c) (λ r. inl (moves_same (face c) h)) (λ m at. inl (delivers number m c h at))
-quiet (event.Lose line number) c h q = message_by line number (lose number) c (Happens c) (λ r. inl (moves_same (face c) h)) (λ m at. inl (taken_out c number h))
-quiet (event.Repeat line number) c h q = message_by line number (send_again line) c (Happens c) (λ r. inl (moves_same (face c) h)) (λ m at. inl (sends_again line number m c h at))
-quiet (event.Nudge line p) c h q = unless_by line (no_peer p c ∷ not_up p c ∷ []) (nudge_good p) c (Happens c) (λ r. inl (moves_same (face c) h)) (λ e. inl (nudges_good p c h))
-quiet (event.Fail line p) c h q = unless_by line (no_peer p c ∷ not_up p c ∷ []) (go_down p) c (Happens c) (λ r. inl (moves_same (face c) h)) (λ e. inr (p, falls p c h (up_within c p (not_up p c ∷ []) h e)))
-quiet (event.Start line p) c h q = unless_by line (no_peer p c ∷ not_down p c ∷ []) (start p) c (Happens c) (λ r. inl (moves_same (face c) h)) (λ e. absurd (none_down c p h e))
+quiet e c h q = does_by c e (Happens c) (record {
+  same = inl (moves_same (face c) h);
+  refuses = λ r why. inl (moves_same (face c) h);
+  asks = λ line o is. inl (keeps_begin_line steps_go_on line o c h);
+  reports = λ p d known. absurd (no_report (p, d) (sym (reported p d known.reported) ∙ q));
+  comes = λ number m known. inl (delivers number m c h known.at);
+  loses = λ number m at. inl (taken_out c number h);
+  repeats = λ number m at room. inl (sends_again number m c h at);
+  nudges = λ p known. inl (nudges p c h (good_within c p h known.good));
+  falls = λ line p is none. inr (p, falls p c h (up_within c p (not_up p c ∷ []) h none));
+  starts = λ line p is none down. absurd (let up : Good ≡ Down = sym (h.good p (up_within c p (not_down p c ∷ []) h none)) ∙ down in cc up);
+})
+  where
+    reported : (p : ℕ) (d : Done) → Some e ≡ Some (event.Report p d) → report_in e ≡ Some (p, d)
+    reported p d is = let same : e ≡ event.Report p d = cc is in ap report_in same
 
 -- ---- how an event begins and ends
 

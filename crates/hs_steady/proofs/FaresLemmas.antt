@@ -1,8 +1,9 @@
 -- How a peer fares by an event that tells nothing of its list: it is left what it has, or its log is told of no more.
-use Rattle.std.proofs.Common.{◌≡◌, ◌≢◌, ◌⊎◌, ◌∙◌, ap, sym, subst, refl, inl, inr, ℕ, zero, suc, ◌+◌, ◌-◌, max, not, nat_lt, Bool, true, false, if◌then◌else◌, List, [], ◌∷◌, ◌++◌, Option, Some, None, length}
+use Rattle.std.proofs.Common.{◌≡◌, ◌≢◌, ◌⊎◌, ◌∙◌, ap, sym, subst, refl, inl, inr, ℕ, zero, suc, ◌+◌, ◌-◌, max, nat_lt, Bool, true, false, if◌then◌else◌, List, [], ◌∷◌, ◌++◌, Option, Some, None, length}
 use Rattle.std.proofs.lemmas.Bool.{cases_eq}
 use Rattle.std.specs.Option.{option_map, option_map_or}
 use Rattle.std.specs.Prelude.{drop, slice_index_or, slice_set, unwrap_or}
+use Rattle.hs_anatomy.proofs.EventLemmas.{does_by}
 use Rattle.hs_anatomy.proofs.StepLemmas.{step_is}
 use Rattle.hs_anatomy.specs.Acts.{begun}
 use Rattle.hs_awaiting.specs.Words.{change_if, ◌▸◌}
@@ -13,10 +14,10 @@ use Rattle.hs_core_copies.proofs.BesideLemmas.{home_of_peer}
 use Rattle.hs_core_copies.proofs.FallLemmas.{fresh_new}
 use Rattle.hs_core_copies.proofs.PlaceLemmas.{rejoin_here, tasks_other}
 use Rattle.hs_core_copies.proofs.StepLemmas.{has_peer}
-use Rattle.hs_core_copies.proofs.WalkLemmas.{keeps_begin_line, keeps_commits, keeps_if, keeps_propose_due, keeps_send_rounds, keeps_tell_bytes, message_by, unless_by}
+use Rattle.hs_core_copies.proofs.WalkLemmas.{keeps_begin_line, keeps_commits, keeps_if, keeps_propose_due, keeps_send_rounds, keeps_tell_bytes}
 use Rattle.hs_core_copies.specs.InStep.{IsInStep, IsOf, rejoin_at}
-use Rattle.hs_core_words.specs.Asking.{deliver, lose, no_peer, not_down, not_up, nudge, nudge_good, send_again, send_rounds}
-use Rattle.hs_core_words.specs.Changing.{change_group, change_pool, change_rejoin, note, post, refuse, set_status, set_tasks}
+use Rattle.hs_core_words.specs.Asking.{deliver, no_peer, not_up, nudge, send_rounds}
+use Rattle.hs_core_words.specs.Changing.{change_group, change_pool, change_rejoin, note, post, set_status, set_tasks}
 use Rattle.hs_core_words.specs.declared.event.Event.{Event}
 use Rattle.hs_core_words.specs.declared.event.Event.TheVariants as event
 use Rattle.hs_core_words.specs.declared.task.Task.{Task}
@@ -25,9 +26,9 @@ use Rattle.hs_core_words.specs.Effects.{commit}
 use Rattle.hs_core_words.specs.Entering.{propose_due}
 use Rattle.hs_core_words.specs.Failing.{go_down, leave}
 use Rattle.hs_core_words.specs.Joining.{is_level_with_lead, join, join_if_level, start}
-use Rattle.hs_core_words.specs.Looking.{first_task, group_of, home, lead_of, rejoin_of, status_of, tasks_of}
+use Rattle.hs_core_words.specs.Looking.{group_of, home, lead_of, rejoin_of, status_of, tasks_of}
 use Rattle.hs_core_words.specs.Operating.{begin_line, propose_entry}
-use Rattle.hs_core_words.specs.Reporting.{on_report, take_report, tell_bytes}
+use Rattle.hs_core_words.specs.Reporting.{take_report, tell_bytes}
 use Rattle.hs_core_words.specs.State.{Core}
 use Rattle.hs_core_words.specs.Step.{do_event, end_event, keep_entries, refuse_entries, step}
 use Rattle.hs_desk.specs.Answers.{answers}
@@ -39,14 +40,13 @@ use Rattle.hs_events.specs.Due.{is_answer}
 use Rattle.hs_journal.specs.declared.entry.Who.TheVariants as who
 use Rattle.hs_limits.specs.declared.limits.PeerStatus.{PeerStatus}
 use Rattle.hs_limits.specs.declared.limits.PeerStatus.TheVariants.{Down, Good, Joining}
-use Rattle.hs_members.specs.Members.{IsPeer, is_down, is_good_status}
+use Rattle.hs_members.specs.Members.{IsPeer, is_good_status}
 use Rattle.hs_model.specs.declared.deed.Deed.TheVariants as deed
-use Rattle.hs_model.specs.declared.reply.Reply.{Reply}
 use Rattle.hs_model.specs.declared.reply.Reply.TheVariants as reply
-use Rattle.hs_model.specs.Refusals.{first, refused_when}
+use Rattle.hs_model.specs.Refusals.{first}
 use Rattle.hs_post.specs.declared.message.Message.{Message}
 use Rattle.hs_post.specs.declared.message.Message.TheVariants as message
-use Rattle.hs_post.specs.Pool.{is_full, without}
+use Rattle.hs_post.specs.Pool.{without}
 use Rattle.hs_rejoin.specs.Rejoin.{Rejoin, copied, emptied, new_rejoin}
 use Rattle.hs_replica.specs.declared.replica.Replica.{Replica}
 use Rattle.hs_replica.specs.Group.{change_copy, copy_of, have, is_peer, lead, on_copied, on_emptied, on_have, on_sealed, takes}
@@ -138,32 +138,6 @@ module _ (g q : ℕ) (c : Core) (s : Copies Entry) (st : IsInStep g c s) (own : 
         let d : Core = note who.Store deed.Nothing (reply.Down disk b.progress.event_line) b in
         fares_fall disk x d (why disk refl) (leaves_both q c b d one (leaves_quiet q b d refl refl refl refl))
 
-  report_fares : (p : ℕ) (d : Done) → q ≢ p → Fares q (event.Report p d) c (on_report p d c)
-  report_fares p d n = go (first_task p c) refl
-    where
-      go : (o : Option Task) → first_task p c ≡ o → Fares q (event.Report p d) c (on_report p d c)
-      go None e = rw e (Left (leaves_same q c))
-      go (Some task) e = answered (answers p task.job d) refl
-        where
-          answer : answers p task.job d ≡ true → is_answer c p d ≡ true
-          answer a = ap (λ (o : Option Task). option_map_or (λ j. answers p j d) (option_map (λ (t : Task). t.job) o) false) e ∙ a
-
-          answered : (b : Bool) → answers p task.job d ≡ b → Fares q (event.Report p d) c (on_report p d c)
-          answered true a = rw (e, a) (takes_fares p task.line (drop 1 (tasks_of p c)) n d (event.Report p d) (λ disk i. ByDisk p (ap (event.Report p) i) (ap (λ x. is_answer c p x) (sym i) ∙ answer a)))
-          answered false a = rw (e, a) (Left (leaves_same q c))
-
-  -- its own, which is not taken
-  untaken : (d : Done) → (is_answer c q d ≡ true → ⊥) → on_report q d c ≡ c
-  untaken d n = go (first_task q c) refl
-    where
-      go : (o : Option Task) → first_task q c ≡ o → on_report q d c ≡ c
-      go None e = rw e refl
-      go (Some task) e = answered (answers q task.job d) refl
-        where
-          answered : (b : Bool) → answers q task.job d ≡ b → on_report q d c ≡ c
-          answered true a = absurd (n (ap (λ (o : Option Task). option_map_or (λ j. answers q j d) (option_map (λ (t : Task). t.job) o) false) e ∙ a))
-          answered false a = rw (e, a) refl
-
   -- ---- messages, nudges
 
   deliver_leaves : (number : ℕ) (m : Message) → Leaves q c (deliver number m c)
@@ -176,24 +150,14 @@ module _ (g q : ℕ) (c : Core) (s : Copies Entry) (st : IsInStep g c s) (own : 
       handled (message.Round from to epoch round total deltas) b =
           keeps_if (steps_leave q) (is_new_round to from epoch round b) (propose_entry to (kind.Got from epoch round total deltas)) b (λ y. leaves_propose q to (kind.Got from epoch round total deltas) y)
 
-  again_leaves : (line : ℕ) (m : Message) → Leaves q c (send_again line m c)
-  again_leaves line m = go (is_full c.pool)
-    where
-      go : (b : Bool) → Leaves q c (if b then refuse line (reply.PoolFull c.pool.limit) c else post (m ∷ []) c)
-      go true = leaves_quiet q c (refuse line (reply.PoolFull c.pool.limit) c) refl refl refl refl
-      go false = leaves_quiet q c (post (m ∷ []) c) refl refl refl refl
-
-  nudge_leaves : (p : ℕ) → Leaves q c (nudge_good p c)
-  nudge_leaves p = keeps_if (steps_leave q) (is_good_status (status_of p c)) (nudge p) c (λ y. nudged y)
-    where
-      nudged : (y : Core) → Leaves q y (nudge p y)
-      nudged y =
-          let x : ℕ = home p y in
-          let one : Core = change_if (is_peer p (lead_of x y)) (λ core. core ▸ propose_due x ▸ send_rounds x) y in
-          leaves_both q y one (nudge p y)
-          (keeps_if (steps_leave q) (is_peer p (lead_of x y)) (λ core. core ▸ propose_due x ▸ send_rounds x) y
-          (λ z. leaves_both q z (propose_due x z) (send_rounds x (propose_due x z)) (keeps_propose_due (steps_leave q) x z) (keeps_send_rounds (steps_leave q) x (propose_due x z))))
-          (leaves_quiet q one (nudge p y) refl refl refl refl)
+  nudge_leaves : (p : ℕ) → Leaves q c (nudge p c)
+  nudge_leaves p =
+      let x : ℕ = home p c in
+      let one : Core = change_if (is_peer p (lead_of x c)) (λ core. core ▸ propose_due x ▸ send_rounds x) c in
+      leaves_both q c one (nudge p c)
+      (keeps_if (steps_leave q) (is_peer p (lead_of x c)) (λ core. core ▸ propose_due x ▸ send_rounds x) c
+      (λ z. leaves_both q z (propose_due x z) (send_rounds x (propose_due x z)) (keeps_propose_due (steps_leave q) x z) (keeps_send_rounds (steps_leave q) x (propose_due x z))))
+      (leaves_quiet q one (nudge p c) refl refl refl refl)
 
   -- ---- a peer begins to join
 
@@ -218,35 +182,33 @@ module _ (g q : ℕ) (c : Core) (s : Copies Entry) (st : IsInStep g c s) (own : 
 
   -- ---- any event but a report of its own that is taken
 
-  refused : (e : Event) (line : ℕ) (r : Reply) → Fares q e c (refuse line r c)
-  refused e line r = Left (leaves_quiet q c (refuse line r c) refl refl refl refl)
-
-  down_of : (p : ℕ) → first (no_peer p c ∷ not_down p c ∷ []) ≡ None → status_of p c ≡ Down
-  down_of p e = go (no_peer p c) (status_of p c) refl e
-    where
-      go : (o : Option Reply) (x : PeerStatus) → status_of p c ≡ x → first (o ∷ not_down p c ∷ []) ≡ None → status_of p c ≡ Down
-      go (Some r) x f i = let wrong : Some r ≡ None = i in absurd (cc wrong)
-      go None Down f i = f
-      go None Good f i = let wrong : Some (reply.NotDown p) ≡ None = sym (ap (λ y. first (None ∷ refused_when (not (is_down y)) (reply.NotDown p) ∷ [])) f) ∙ i in absurd (cc wrong)
-      go None Joining f i = let wrong : Some (reply.NotDown p) ≡ None = sym (ap (λ y. first (None ∷ refused_when (not (is_down y)) (reply.NotDown p) ∷ [])) f) ∙ i in absurd (cc wrong)
-
   does_fares : (e : Event) → ((d : Done) → e ≡ event.Report q d → is_answer c q d ≡ true → ⊥) → Fares q e c (do_event e c)
-  does_fares (event.Line line o) n =
-      let a : Core = record c { progress = record c.progress { last_line = line } } in
-      Left (leaves_both q c a (begin_line line o c) (leaves_quiet q c a refl refl refl refl) (keeps_begin_line (steps_leave q) line o c))
-  does_fares (event.Report p d) n = elim (cases_eq q p) [
-    | inl i ↦ Left (subst (Leaves q c) (sym (ap (λ j. on_report j d c) (sym i) ∙ untaken d (λ a. n d (ap (λ j. event.Report j d) (sym i)) a))) (leaves_same q c))
-    | inr ne ↦ report_fares p d ne
-  ]
-  does_fares (event.Turn line p) n = let e : Event = event.Turn line p in unless_by line (no_peer p c ∷ not_up p c ∷ []) (λ core. core) c (Fares q e c) (refused e line) (λ i. Left (leaves_same q c))
-  does_fares (event.Deliver line number) n = let e : Event = event.Deliver line number in message_by line number (deliver number) c (Fares q e c) (refused e line) (λ m i. Left (deliver_leaves number m))
-  does_fares (event.Lose line number) n =
-      let e : Event = event.Lose line number in message_by line number (lose number) c (Fares q e c) (refused e line) (λ m i. Left (leaves_quiet q c (change_pool (without number) c) refl refl refl refl))
-  does_fares (event.Repeat line number) n = let e : Event = event.Repeat line number in message_by line number (send_again line) c (Fares q e c) (refused e line) (λ m i. Left (again_leaves line m))
-  does_fares (event.Nudge line p) n = let e : Event = event.Nudge line p in unless_by line (no_peer p c ∷ not_up p c ∷ []) (nudge_good p) c (Fares q e c) (refused e line) (λ i. Left (nudge_leaves p))
-  does_fares (event.Fail line p) n =
-      let e : Event = event.Fail line p in unless_by line (no_peer p c ∷ not_up p c ∷ []) (go_down p) c (Fares q e c) (refused e line) (λ i. fares_fall p e c (ByLine line refl i) (leaves_same q c))
-  does_fares (event.Start line p) n = let e : Event = event.Start line p in unless_by line (no_peer p c ∷ not_down p c ∷ []) (start p) c (Fares q e c) (refused e line) (λ i. start_fares p e (down_of p i))
+  does_fares e n = does_by c e (Fares q e c) (record {
+    same = Left (leaves_same q c);
+    refuses = λ r why. quiet refl refl refl refl;
+    asks = λ line o is.
+        let a : Core = record c { progress = record c.progress { last_line = line } } in
+        Left (leaves_both q c a (begin_line line o c) (leaves_quiet q c a refl refl refl refl) (keeps_begin_line (steps_leave q) line o c));
+    reports = λ p d known.
+        let is : e ≡ event.Report p d = event_is e (event.Report p d) known.reported in
+        let answer : is_answer c p d ≡ true = ap (λ (o : Option Task). option_map_or (λ j. answers p j d) (option_map (λ (t : Task). t.job) o) false) known.first ∙ known.fits in
+        elim (cases_eq q p) [
+          | inl i ↦ absurd (n d (is ∙ ap (λ j. event.Report j d) (sym i)) (ap (λ j. is_answer c j d) i ∙ answer))
+          | inr ne ↦ takes_fares p known.task.line (drop 1 (tasks_of p c)) ne d e (λ disk k. ByDisk p (is ∙ ap (event.Report p) k) (ap (λ x. is_answer c p x) (sym k) ∙ answer))
+        ];
+    comes = λ number m known. Left (deliver_leaves number m);
+    loses = λ number m at. quiet refl refl refl refl;
+    repeats = λ number m at room. quiet refl refl refl refl;
+    nudges = λ p known. Left (nudge_leaves p);
+    falls = λ line p is none. fares_fall p e c (ByLine line is none) (leaves_same q c);
+    starts = λ line p is none down. start_fares p e down;
+  })
+    where
+      quiet : {b : Core} → b.members ≡ c.members → b.groups ≡ c.groups → b.tasks ≡ c.tasks → b.progress.rejoins ≡ c.progress.rejoins → Fares q e c b
+      quiet {b = b} members groups tasks rejoins = Left (leaves_quiet q c b members groups tasks rejoins)
+
+      event_is : (x y : Event) → Some x ≡ Some y → x ≡ y
+      event_is x y is = cc is
 
 -- ---- an event at a moment
 

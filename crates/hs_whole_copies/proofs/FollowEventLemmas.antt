@@ -7,6 +7,7 @@ use Rattle.std.proofs.lemmas.Nat.{div-mul-add}
 use Rattle.std.specs.List.{All, range_with_len}
 use Rattle.std.specs.Option.{option_map}
 use Rattle.std.specs.Prelude.{drop, filter, nat_lt}
+use Rattle.hs_anatomy.proofs.EventLemmas.{does_by}
 use Rattle.hs_anatomy.proofs.StepLemmas.{step_is}
 use Rattle.hs_anatomy.specs.Acts.{begun}
 use Rattle.hs_awaiting.specs.Words.{change_if, change_with, each, ◌▸◌}
@@ -25,12 +26,11 @@ use Rattle.hs_core_copies.proofs.ReportLemmas.{copy_is, found, queued_copy, queu
 use Rattle.hs_core_copies.proofs.StepLemmas.{has_group}
 use Rattle.hs_core_copies.proofs.StepsLemmas.{ends, lost_told, was_going}
 use Rattle.hs_core_copies.proofs.StepsOnLemmas.{copy_step}
-use Rattle.hs_core_copies.proofs.WalkLemmas.{keeps_begin_line, keeps_commits, keeps_if, keeps_propose_due, keeps_send_rounds, keeps_tell_bytes, message_by, unless_by}
+use Rattle.hs_core_copies.proofs.WalkLemmas.{keeps_begin_line, keeps_commits, keeps_if, keeps_propose_due, keeps_send_rounds, keeps_tell_bytes}
 use Rattle.hs_core_copies.specs.InStep.{IsInStep, IsOf, IsWithin, copies_in}
-use Rattle.hs_core_words.specs.Asking.{deliver, lose, no_peer, not_down, not_up, nudge, nudge_good, send_again, send_rounds}
-use Rattle.hs_core_words.specs.Changing.{add_entry_tasks, change_group, change_pool, change_rejoin, note, post, refuse, set_rejoin, set_status, set_tasks, set_viewed}
+use Rattle.hs_core_words.specs.Asking.{nudge, send_rounds}
+use Rattle.hs_core_words.specs.Changing.{add_entry_tasks, change_group, change_pool, change_rejoin, note, post, set_rejoin, set_status, set_tasks, set_viewed}
 use Rattle.hs_core_words.specs.declared.event.Event.{Event}
-use Rattle.hs_core_words.specs.declared.event.Event.TheVariants as event
 use Rattle.hs_core_words.specs.declared.task.Task.{Task}
 use Rattle.hs_core_words.specs.Delivering.{handle, is_new_round, on_copy, take_copy, take_have}
 use Rattle.hs_core_words.specs.Effects.{commit}
@@ -39,7 +39,7 @@ use Rattle.hs_core_words.specs.Failing.{commit_rest, fail_disk, go_down, leave}
 use Rattle.hs_core_words.specs.Joining.{begin_joining, follow_lead, is_level_with_lead, join, join_if_level, joining_peers, start}
 use Rattle.hs_core_words.specs.Looking.{first_task, group_of, home, lead_of, rejoin_of, status_of, tasks_of}
 use Rattle.hs_core_words.specs.Operating.{begin_line, propose_entry}
-use Rattle.hs_core_words.specs.Reporting.{on_report, take_report, take_sealed, tell_bytes}
+use Rattle.hs_core_words.specs.Reporting.{take_report, take_sealed, tell_bytes}
 use Rattle.hs_core_words.specs.State.{Core}
 use Rattle.hs_core_words.specs.Step.{do_event, end_event, keep_entries, refuse_entries, step}
 use Rattle.hs_core_words.specs.Views.{begin_view, change_view, restart}
@@ -53,14 +53,13 @@ use Rattle.hs_limits.specs.declared.limits.PeerStatus.{PeerStatus}
 use Rattle.hs_limits.specs.declared.limits.PeerStatus.TheVariants.{Down, Good, Joining}
 use Rattle.hs_limits.specs.declared.shape.Shape.{Shape}
 use Rattle.hs_limits.specs.Shape.{peer_of}
-use Rattle.hs_members.specs.Members.{Members, become, has_good, home_of, is_down, is_good_status, is_joining, peers_of, status, view_of}
+use Rattle.hs_members.specs.Members.{Members, become, has_good, home_of, is_good_status, is_joining, peers_of, status, view_of}
 use Rattle.hs_model.specs.declared.deed.Deed.TheVariants as deed
-use Rattle.hs_model.specs.declared.reply.Reply.{Reply}
 use Rattle.hs_model.specs.declared.reply.Reply.TheVariants as reply
-use Rattle.hs_model.specs.Refusals.{first, refused_when}
+use Rattle.hs_model.specs.Refusals.{first}
 use Rattle.hs_post.specs.declared.message.Message.{Message}
 use Rattle.hs_post.specs.declared.message.Message.TheVariants as message
-use Rattle.hs_post.specs.Pool.{is_full, without}
+use Rattle.hs_post.specs.Pool.{without}
 use Rattle.hs_rejoin.specs.Rejoin.{Rejoin, copied, emptied, follow, new_rejoin}
 use Rattle.hs_replica.specs.declared.replica.Replica.{Replica}
 use Rattle.hs_replica.specs.Group.{Group, IsHome, change_copy, copy_of, have, hears, is_peer, lead, length_of, on_copied, on_emptied, on_have, on_sealed, renew, renewal, stamp, take_entry, takes}
@@ -563,17 +562,6 @@ module _ (g p : ℕ) (c : Core) (s : Copies Entry) (st : IsInStep g c s) (k : Is
   takes_report (done.Stepped switched) a = inl f
   takes_report (done.Failed disk) a = fails_disk g disk (set_tasks p (drop 1 (tasks_of p c)) c) rest_told f
 
-reports : (g p : ℕ) (d : Done) (c : Core) (s : Copies Entry) → IsInStep g c s → IsTold g c → FollowsLead g c → FollowsOrLost g (on_report p d c)
-reports g p d c s st k f = go (first_task p c) refl
-  where
-    go : (o : Option Task) → first_task p c ≡ o → FollowsOrLost g (on_report p d c)
-    go None e = rw e (inl f)
-    go (Some task) e = answered (answers p task.job d) refl
-      where
-        answered : (b : Bool) → answers p task.job d ≡ b → FollowsOrLost g (on_report p d c)
-        answered true a = rw (e, a) (takes_report g p c s st k f task e d a)
-        answered false a = rw (e, a) (inl f)
-
 -- ---- messages
 
 copies : (g shard to view number : ℕ) (entry : Entry) (c : Core) → IsOf c.members.shape shard to → IsTold g c → FollowsLead g c → FollowsLead g (on_copy shard to view number entry c)
@@ -637,49 +625,33 @@ handles g (message.Round from to epoch round total deltas) c own k f =
     steady_keeps g c (handle (message.Round from to epoch round total deltas) c)
     (keeps_if (steps_follow g) (is_new_round to from epoch round c) (propose_entry to (kind.Got from epoch round total deltas)) c (λ y. follows_proposes g to (kind.Got from epoch round total deltas) y) k).1 f
 
-again : (g line : ℕ) (m : Message) (c : Core) → Follows g c (send_again line m c)
-again g line m c = go (is_full c.pool)
-  where
-    go : (b : Bool) → Follows g c (if b then refuse line (reply.PoolFull c.pool.limit) c else post (m ∷ []) c)
-    go true = follows_quiet g c (refuse line (reply.PoolFull c.pool.limit) c) refl refl refl refl
-    go false = follows_quiet g c (post (m ∷ []) c) refl refl refl refl
-
-nudges : (g p : ℕ) (c : Core) → Follows g c (nudge_good p c)
-nudges g p c = keeps_if (steps_follow g) (is_good_status (status_of p c)) (nudge p) c (λ y.
-    let x : ℕ = home p y in
-    let a : Core = change_if (is_peer p (lead_of x y)) (λ core. core ▸ propose_due x ▸ send_rounds x) y in
-    follows_both g y a (nudge p y)
-    (keeps_if (steps_follow g) (is_peer p (lead_of x y)) (λ core. core ▸ propose_due x ▸ send_rounds x) y
-    (λ z. follows_both g z (propose_due x z) (send_rounds x (propose_due x z)) (keeps_propose_due (steps_follow g) x z) (keeps_send_rounds (steps_follow g) x (propose_due x z))))
-    (follows_quiet g a (nudge p y) refl refl refl refl))
-
 -- ---- events
 
-down_of : (p : ℕ) (c : Core) → first (no_peer p c ∷ not_down p c ∷ []) ≡ None → status_of p c ≡ Down
-down_of p c e = go (no_peer p c) (status_of p c) refl e
-  where
-    go : (o : Option Reply) (k : PeerStatus) → status_of p c ≡ k → first (o ∷ not_down p c ∷ []) ≡ None → status_of p c ≡ Down
-    go (Some r) k f i = let wrong : Some r ≡ None = i in absurd (cc wrong)
-    go None Down f i = f
-    go None Good f i = let wrong : Some (reply.NotDown p) ≡ None = sym (ap (λ s. first (None ∷ refused_when (not (is_down s)) (reply.NotDown p) ∷ [])) f) ∙ i in absurd (cc wrong)
-    go None Joining f i = let wrong : Some (reply.NotDown p) ≡ None = sym (ap (λ s. first (None ∷ refused_when (not (is_down s)) (reply.NotDown p) ∷ [])) f) ∙ i in absurd (cc wrong)
-
-refused : (g line : ℕ) (c : Core) (r : Reply) → FollowsLead g c → FollowsOrLost g (refuse line r c)
-refused g line c r f = inl f
+nudges : (g p : ℕ) (c : Core) → Follows g c (nudge p c)
+nudges g p c =
+    let x : ℕ = home p c in
+    let a : Core = change_if (is_peer p (lead_of x c)) (λ core. core ▸ propose_due x ▸ send_rounds x) c in
+    follows_both g c a (nudge p c)
+    (keeps_if (steps_follow g) (is_peer p (lead_of x c)) (λ core. core ▸ propose_due x ▸ send_rounds x) c
+    (λ z. follows_both g z (propose_due x z) (send_rounds x (propose_due x z)) (keeps_propose_due (steps_follow g) x z) (keeps_send_rounds (steps_follow g) x (propose_due x z))))
+    (follows_quiet g a (nudge p c) refl refl refl refl)
 
 does_follow : (g : ℕ) (e : Event) (c : Core) (s : Copies Entry) → IsInStep g c s → IsTold g c → FollowsLead g c → FollowsOrLost g (do_event e c)
-does_follow g (event.Line line o) c s st k f =
-    let a : Core = record c { progress = record c.progress { last_line = line } } in
-    inl (steady_keeps g c (begin_line line o c) (follows_both g c a (begin_line line o c) (follows_quiet g c a refl refl refl refl) (keeps_begin_line (steps_follow g) line o c) k).1 f)
-does_follow g (event.Report p d) c s st k f = reports g p d c s st k f
-does_follow g (event.Turn line p) c s st k f = unless_by line (no_peer p c ∷ not_up p c ∷ []) (λ core. core) c (FollowsOrLost g) (λ r. refused g line c r f) (λ e. inl f)
-does_follow g (event.Deliver line number) c s st k f = message_by line number (deliver number) c (FollowsOrLost g) (λ r. refused g line c r f)
-    (λ m at. inl (handles g m (change_pool (without number) c) (message_has (IsWithin c.members.shape) number c.pool m at st.seated.within) (follows_quiet g c (change_pool (without number) c) refl refl refl refl k).0 f))
-does_follow g (event.Lose line number) c s st k f = message_by line number (lose number) c (FollowsOrLost g) (λ r. refused g line c r f) (λ m at. inl f)
-does_follow g (event.Repeat line number) c s st k f = message_by line number (send_again line) c (FollowsOrLost g) (λ r. refused g line c r f) (λ m at. inl (steady_keeps g c (send_again line m c) (again g line m c k).1 f))
-does_follow g (event.Nudge line p) c s st k f = unless_by line (no_peer p c ∷ not_up p c ∷ []) (nudge_good p) c (FollowsOrLost g) (λ r. refused g line c r f) (λ e. inl (steady_keeps g c (nudge_good p c) (nudges g p c k).1 f))
-does_follow g (event.Fail line p) c s st k f = unless_by line (no_peer p c ∷ not_up p c ∷ []) (go_down p) c (FollowsOrLost g) (λ r. refused g line c r f) (λ e. falls g p c k f)
-does_follow g (event.Start line p) c s st k f = unless_by line (no_peer p c ∷ not_down p c ∷ []) (start p) c (FollowsOrLost g) (λ r. refused g line c r f) (λ e. inl (starts g p c (down_of p c e) k f))
+does_follow g e c s st k f = does_by c e (FollowsOrLost g) (record {
+  same = inl f;
+  refuses = λ r why. inl f;
+  asks = λ line o is.
+      let a : Core = record c { progress = record c.progress { last_line = line } } in
+      inl (steady_keeps g c (begin_line line o c) (follows_both g c a (begin_line line o c) (follows_quiet g c a refl refl refl refl) (keeps_begin_line (steps_follow g) line o c) k).1 f);
+  reports = λ p d known. takes_report g p c s st k f known.task known.first d known.fits;
+  comes = λ number m known.
+      inl (handles g m (change_pool (without number) c) (message_has (IsWithin c.members.shape) number c.pool m known.at st.seated.within) (follows_quiet g c (change_pool (without number) c) refl refl refl refl k).0 f);
+  loses = λ number m at. inl f;
+  repeats = λ number m at room. inl f;
+  nudges = λ p known. inl (steady_keeps g c (nudge p c) (nudges g p c k).1 f);
+  falls = λ line p is none. falls g p c k f;
+  starts = λ line p is none down. inl (starts g p c down k f);
+})
 
 -- a shard in step has its group as the members say
 pub told_in_step : (g : ℕ) (c : Core) (s : Copies Entry) → IsInStep g c s → IsTold g c
