@@ -5,7 +5,7 @@ use Rattle.std.proofs.lemmas.List.{get_or_past}
 use Rattle.std.specs.List.{AllByRecursion, list_any, range_with_len}
 use Rattle.std.specs.Prelude.{drop, if◌then◌else◌, slice_index_or, take, unwrap_or}
 use Rattle.hs_standing.specs.Walks.{HasRecordRoom}
-use Rattle.hs_standing.specs.Answered.{KeepsRecordRoom, TellTheirBlocks, judging_of}
+use Rattle.hs_standing.specs.Answered.{KeepsRecordRoom, TellTheirBlocks, judging_by}
 use Rattle.hs_clauses.proofs.AtEntryLemmas.{OpensAtEntry, opens_at_entry}
 use Rattle.hs_clauses.proofs.LineLemmas.{flat_same, joined, opening_due}
 use Rattle.hs_clauses.proofs.ReadLemmas.{BringsAll, applied_all, from_empty, read_brings, read_from_one}
@@ -46,7 +46,7 @@ use Rattle.hs_standing.proofs.LinesStepLemmas.{step_ended}
 use Rattle.hs_standing.proofs.FirstRoomLemmas.{first_room}
 use Rattle.hs_standing.proofs.TakenLemmas.{FoldsInMemory}
 use Rattle.hs_standing.specs.Run.{RunBegins, RunOpens}
-use Rattle.hs_standing.specs.Standing.{judging_of as run_judging}
+use Rattle.hs_standing.specs.Standing.{judging_of}
 use Rattle.hs_standing.specs.Start.{Start}
 
 -- ---- what is asked
@@ -155,7 +155,7 @@ ReadsBlocks =
     (start : Start) (found : Found) (past done : Bool) (opening : Events) (lines : List Events) (to : ℕ) → RunBegins start found → MomentsRise found.opened (opening ++ lines_events lines) to
     → is_walk next_due done 0 (first_core start.set found) opening ≡ true → AreLines (script_of start past) 1 (steps (first_core start.set found) opening) lines
     → KeepsRecordRoom (first_core start.set found) (opening ++ lines_events lines) → AreTold (open_whole start.set found) (opening ++ lines_events lines)
-    → TellTheirBlocks (run_judging start) start.entry (first_core start.set found) (opening ++ lines_events lines)
+    → TellTheirBlocks (judging_of start) start.entry (first_core start.set found) (opening ++ lines_events lines)
 
 -- a core that has ended takes no reports
 blocks_ended : (by : Judging) (entry : Store) (core : Core) (es : Events) (f : CoreFault) → core.ended ≡ Some f → TellTheirBlocks by entry core es
@@ -173,9 +173,9 @@ module _ (memory : FoldsInMemory) (reads : ReadsBlocks) (S : Script) (r : Ran) (
   same_events : all_events story ≡ story.opening ++ lines_events story.lines
   same_events = ap (λ (es : Events). story.opening ++ es) (flat_same story.lines)
 
-  blocks_going : (first_core S.set story.found).ended ≡ None → TellTheirBlocks (judging_of (lined S r) S.set.limits) (entry_store S r) (first_core S.set story.found) (all_events story)
+  blocks_going : (first_core S.set story.found).ended ≡ None → TellTheirBlocks (judging_by (lined S r) S.set.limits) (entry_store S r) (first_core S.set story.found) (all_events story)
   blocks_going going =
-      subst (λ (es : Events). TellTheirBlocks (judging_of (lined S r) S.set.limits) (entry_store S r) (first_core S.set story.found) es) (sym same_events)
+      subst (λ (es : Events). TellTheirBlocks (judging_by (lined S r) S.set.limits) (entry_store S r) (first_core S.set story.found) es) (sym same_events)
       (reads (start_of S r) story.found (ending_of r.ending).past false story.opening story.lines r.new.moment run.begins
       (subst (λ (es : Events). MomentsRise story.found.opened es r.new.moment) same_events run.went.rises)
       (opening_due (opening_is_whole r story.lines) (first_core S.set story.found) story.opening run.went.opening)
@@ -183,12 +183,12 @@ module _ (memory : FoldsInMemory) (reads : ReadsBlocks) (S : Script) (r : Ran) (
       (subst (λ (es : Events). KeepsRecordRoom (first_core S.set story.found) es) same_events rooms)
       (subst (λ (es : Events). AreTold (open_whole S.set story.found) es) same_events (run.told going)))
 
-  blocks : TellTheirBlocks (judging_of (lined S r) S.set.limits) (entry_store S r) (first_core S.set story.found) (all_events story)
+  blocks : TellTheirBlocks (judging_by (lined S r) S.set.limits) (entry_store S r) (first_core S.set story.found) (all_events story)
   blocks = go (first_core S.set story.found).ended refl
     where
-      go : (o : Option CoreFault) → (first_core S.set story.found).ended ≡ o → TellTheirBlocks (judging_of (lined S r) S.set.limits) (entry_store S r) (first_core S.set story.found) (all_events story)
+      go : (o : Option CoreFault) → (first_core S.set story.found).ended ≡ o → TellTheirBlocks (judging_by (lined S r) S.set.limits) (entry_store S r) (first_core S.set story.found) (all_events story)
       go None going = blocks_going going
-      go (Some f) over = blocks_ended (judging_of (lined S r) S.set.limits) (entry_store S r) (first_core S.set story.found) (all_events story) f over
+      go (Some f) over = blocks_ended (judging_by (lined S r) S.set.limits) (entry_store S r) (first_core S.set story.found) (all_events story) f over
 
   pub soundly_of : RunsSoundly S r story
   soundly_of = record { went = run.went; begins = run.begins; rooms = run.rooms; blocks = blocks }

@@ -3,7 +3,7 @@ use Rattle.std.proofs.Common.{◌≡◌, sym, subst, ℕ, ◌++◌, Bool, false,
 use Rattle.std.specs.Prelude.{flat_map}
 use Rattle.hs_answered.specs.Telling.{Judging}
 use Rattle.hs_standing.proofs.AddressedLemmas.{AllAddressed, LinesAsk, lines_addressed, settle_addressed}
-use Rattle.hs_standing.specs.Answered.{judging_of}
+use Rattle.hs_standing.specs.Answered.{judging_by}
 use Rattle.hs_clauses.proofs.AlongLemmas.{rises_front, rises_rest}
 use Rattle.hs_clauses.proofs.FirstLemmas.{opens_first}
 use Rattle.hs_clauses.proofs.LineLemmas.{flat_same, joined, opening_due}
@@ -70,7 +70,7 @@ module _ (laws : ComingLaws) (S : Script) (r : Ran) (story : Story) (went : Went
   line_events = flat_map (λ (line : Events). line) story.lines
 
   abbrev by : Judging
-  by = judging_of (lined S r) S.set.limits
+  by = judging_by (lined S r) S.set.limits
 
   moment_is : (first_core S.set story.found).moment ≡ story.found.opened
   moment_is = (opens_first S.set.shape S.set.limits (opens_with S.set story.found) story.found.opened).moment
@@ -123,7 +123,7 @@ module _ (laws : ComingLaws) (S : Script) (r : Ran) (story : Story) (went : Went
       begin_both S.set.name first story.opening line_events (laws.new_opening S.set.name false first story.opening walks)
       (subst (λ (es : Events). MayBeginAll S.set.name es mid) (sym (flat_same story.lines)) new_mid)
 
-  pub addressed_all : AllAddressed (judging_of (lined S r) S.set.limits) (all_events story) (first_core S.set story.found)
+  pub addressed_all : AllAddressed (judging_by (lined S r) S.set.limits) (all_events story) (first_core S.set story.found)
   addressed_all =
       addressed_both by first story.opening line_events (settle_addressed by false 0 first story.opening walks)
       (subst (λ (es : Events). AllAddressed by es mid) (sym (flat_same story.lines)) (lines_addressed (lined S r) S.set.limits (laws.asks by) 1 mid story.lines next_mid new_mid lines_mid))

@@ -3,7 +3,7 @@ use Rattle.std.proofs.Common.{◌≡◌, ◌∙◌, ap, sym, subst, ℕ, Bool, t
 use Rattle.std.specs.Prelude.{flat_map}
 use Rattle.hs_answered.specs.Standing.{store_with}
 use Rattle.hs_answered.specs.Telling.{Judging}
-use Rattle.hs_standing.specs.Answered.{AreAnswers, IsAskedAlong, IsReady, judging_of}
+use Rattle.hs_standing.specs.Answered.{AreAnswers, IsAskedAlong, IsReady, judging_by}
 use Rattle.hs_clauses.proofs.AlongLemmas.{along_front, along_rest, known_front, known_rest, rises_front, rises_rest}
 use Rattle.hs_clauses.proofs.FirstLemmas.{opens_first}
 use Rattle.hs_clauses.proofs.LineLemmas.{flat_same, joined, opening_due}
@@ -38,22 +38,22 @@ use Rattle.hs_told.specs.InTurn.{IsInTurn, told_of}
 
 -- the laws below, in one place
 pub record LawsHere : Type 0 where
-  pub opens : (s : Lined) (set : Setting) (found : Found) (cs : List Folded) → client_op (s.commands 0) ≡ None → GivesAddresses s.name → MayOpen (judging_of s set.limits) set.shape (opens_with set found) found.opened cs
-      → IsReady (judging_of s set.limits) (store_with cs []) (first_core set found)
-  pub opening : (s : Lined) (limits : Limits) (start : Store) (core : Core) (done : Bool) (es : Events) (to : ℕ) → GivesAddresses s.name → IsValid start → IsReady (judging_of s limits) start core
-      → client_op (s.commands 0) ≡ None → core.progress.event_line ≡ 0 → MomentsRise core.moment es to → is_walk next_due done 0 core es ≡ true → AllKnowTheirCopies core es → IsAskedAlong (judging_of s limits) start core es
-      → IsReady (judging_of s limits) start (steps core es) × IsNext s.commands (steps core es) 1
-  pub lines : (s : Lined) (limits : Limits) (start : Store) (core : Core) (line : ℕ) (lines : List Events) (to : ℕ) → GivesAddresses s.name → IsValid start → IsReady (judging_of s limits) start core
-      → IsNext s.commands core line → MomentsRise core.moment (lines_events lines) to → AreLines s line core lines → AllKnowTheirCopies core (lines_events lines) → IsAskedAlong (judging_of s limits) start core (lines_events lines)
-      → IsReady (judging_of s limits) start (steps core (lines_events lines))
-  pub answers : (s : Lined) (limits : Limits) (start : Store) (core : Core) (line : ℕ) (lines : List Events) (to : ℕ) → GivesAddresses s.name → IsValid start → IsReady (judging_of s limits) start core
-      → IsNext s.commands core line → MomentsRise core.moment (lines_events lines) to → AreLines s line core lines → AllKnowTheirCopies core (lines_events lines) → IsAskedAlong (judging_of s limits) start core (lines_events lines)
-      → AreAnswers (judging_of s limits) start (told_of (steps core (lines_events lines)))
+  pub opens : (s : Lined) (set : Setting) (found : Found) (cs : List Folded) → client_op (s.commands 0) ≡ None → GivesAddresses s.name → MayOpen (judging_by s set.limits) set.shape (opens_with set found) found.opened cs
+      → IsReady (judging_by s set.limits) (store_with cs []) (first_core set found)
+  pub opening : (s : Lined) (limits : Limits) (start : Store) (core : Core) (done : Bool) (es : Events) (to : ℕ) → GivesAddresses s.name → IsValid start → IsReady (judging_by s limits) start core
+      → client_op (s.commands 0) ≡ None → core.progress.event_line ≡ 0 → MomentsRise core.moment es to → is_walk next_due done 0 core es ≡ true → AllKnowTheirCopies core es → IsAskedAlong (judging_by s limits) start core es
+      → IsReady (judging_by s limits) start (steps core es) × IsNext s.commands (steps core es) 1
+  pub lines : (s : Lined) (limits : Limits) (start : Store) (core : Core) (line : ℕ) (lines : List Events) (to : ℕ) → GivesAddresses s.name → IsValid start → IsReady (judging_by s limits) start core
+      → IsNext s.commands core line → MomentsRise core.moment (lines_events lines) to → AreLines s line core lines → AllKnowTheirCopies core (lines_events lines) → IsAskedAlong (judging_by s limits) start core (lines_events lines)
+      → IsReady (judging_by s limits) start (steps core (lines_events lines))
+  pub answers : (s : Lined) (limits : Limits) (start : Store) (core : Core) (line : ℕ) (lines : List Events) (to : ℕ) → GivesAddresses s.name → IsValid start → IsReady (judging_by s limits) start core
+      → IsNext s.commands core line → MomentsRise core.moment (lines_events lines) to → AreLines s line core lines → AllKnowTheirCopies core (lines_events lines) → IsAskedAlong (judging_by s limits) start core (lines_events lines)
+      → AreAnswers (judging_by s limits) start (told_of (steps core (lines_events lines)))
   pub memory : FoldsInMemory
 
 module _ (laws : LawsHere) (S : Script) (r : Ran) (story : Story) (run : RunsSoundly S r story) where
   abbrev by : Judging
-  by = judging_of (lined S r) S.set.limits
+  by = judging_by (lined S r) S.set.limits
 
   abbrev first : Core
   first = first_core S.set story.found
@@ -84,7 +84,7 @@ module _ (laws : LawsHere) (S : Script) (r : Ran) (story : Story) (run : RunsSou
   known : AllKnowTheirCopies (first_core S.set story.found) (all_events story)
   known = soundly_knows S.set story.found run.begins.soundly (all_events story)
 
-  along : IsAskedAlong (judging_of (lined S r) S.set.limits) (entry_store S r) (first_core S.set story.found) (all_events story)
+  along : IsAskedAlong (judging_by (lined S r) S.set.limits) (entry_store S r) (first_core S.set story.found) (all_events story)
   along = record { room = keeps_room first (all_events story) few run.rooms; blocks = run.blocks }
 
   -- ---- as it opens

@@ -5,7 +5,7 @@ use Rattle.std.specs.Option.{option_and_then, option_map_or}
 use Rattle.std.specs.Prelude.{if◌then◌else◌, ◌==◌, ◌&&◌}
 use Rattle.hs_answered.specs.Standing.{store_with}
 use Rattle.hs_answered.specs.Telling.{Judging}
-use Rattle.hs_standing.specs.Answered.{judging_of}
+use Rattle.hs_standing.specs.Answered.{judging_by}
 use Rattle.hs_core_words.specs.declared.event.Event.{Event}
 use Rattle.hs_core_words.specs.declared.event.Event.TheVariants as event
 use Rattle.hs_core_words.specs.Looking.{operation_of}
@@ -160,14 +160,14 @@ module _ (by : Judging) where
   begin_rest core [] fs a = a
   begin_rest core (e ∷ es) fs a = begin_rest (step e.0 e.1 core) es fs a.1
 
-pub lines_addressed : (s : Script) (limits : Limits) → LinesAsk (judging_of s limits) → (line : ℕ) (core : Core) (lines : List Events) → IsNext s.commands core line
-    → MayBeginAll s.name (all_events lines) core → AreLines s line core lines → AllAddressed (judging_of s limits) (all_events lines) core
+pub lines_addressed : (s : Script) (limits : Limits) → LinesAsk (judging_by s limits) → (line : ℕ) (core : Core) (lines : List Events) → IsNext s.commands core line
+    → MayBeginAll s.name (all_events lines) core → AreLines s line core lines → AllAddressed (judging_by s limits) (all_events lines) core
 lines_addressed s limits ask line core [] its new are = tt
 lines_addressed s limits ask line core (es ∷ []) its new are =
-    let by : Judging = judging_of s limits in
+    let by : Judging = judging_by s limits in
     all_addressed by core es [] (line_addressed by ask (record { line = line; core = core; events = es; whole = s.past }) (begin_first by core es [] new) are.events) tt
 lines_addressed s limits ask line core (es ∷ next ∷ rest) its new are =
-    let by : Judging = judging_of s limits in
+    let by : Judging = judging_by s limits in
     let at : LineAt = record { line = line; core = core; events = es; whole = true } in
     let first : Passes s.commands at = line_passes s.commands s.name at its are.0.events in
     all_addressed by core es (all_events (next ∷ rest)) (line_addressed by ask at (begin_first by core es (all_events (next ∷ rest)) new) are.0.events)

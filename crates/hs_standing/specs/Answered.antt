@@ -18,8 +18,8 @@ use Rattle.hs_model.specs.Store.{Store}
 use Rattle.hs_told.specs.InTurn.{IsInTurn}
 
 -- by what the journal of a script is judged
-abbrev pub judging_of : Script → Limits → Judging
-judging_of s limits = record { commands = s.commands; name = s.name; limits = limits }
+abbrev pub judging_by : Script → Limits → Judging
+judging_by s limits = record { commands = s.commands; name = s.name; limits = limits }
 
 -- ---- what is asked along events, as long as the core goes on
 

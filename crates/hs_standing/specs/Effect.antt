@@ -47,7 +47,7 @@ pub record AreStanding (start : Start) (Awaited : ℕ → Type 0) (journal : Lis
   pub left : (shard : ℕ) → shard < start.set.shape.shards → MayBeLeft start.set Awaited lists shard
 
 -- the first entry that waits of a shard
-pub record IsNext (set : Setting) (lists : Lists) (shard : ℕ) (e : ℕ × Entry) : Type 0 where
+pub record IsFirstWaiting (set : Setting) (lists : Lists) (shard : ℕ) (e : ℕ × Entry) : Type 0 where
   pub of : shard < set.shape.shards
   pub rest : Numbered
   pub first : waiting lists shard ≡ e ∷ rest

@@ -2,7 +2,7 @@
 ghost use Rattle.std.specs.Prelude.{◌≡◌, ℕ, Bool, true, List, [], None};
 ghost use Rattle.hs_answered.specs.Standing.{store_with};
 ghost use Rattle.hs_core_words.specs.State.{Core};
-ghost use Rattle.hs_standing.specs.Answered.{AreAnswers, IsAskedAlong, IsReady, judging_of};
+ghost use Rattle.hs_standing.specs.Answered.{AreAnswers, IsAskedAlong, IsReady, judging_by};
 ghost use Rattle.hs_events.specs.Course.{steps};
 ghost use Rattle.hs_events.specs.Due.{Events, MomentsRise, is_walk, next_due};
 ghost use Rattle.hs_events.specs.Found.{Found, first_core, opens_with};
@@ -35,32 +35,32 @@ use hs_told::answers_stay_in_order;
 pub fn a_script_is_answered()
     ensures opens { (s : Script) (set : Setting) (found : Found) (cs : List Folded)
         → client_op (s.commands 0) ≡ None → GivesAddresses s.name
-        → MayOpen (judging_of s set.limits) set.shape (opens_with set found) found.opened cs →
-        IsReady (judging_of s set.limits) (store_with cs []) (first_core set found) }
+        → MayOpen (judging_by s set.limits) set.shape (opens_with set found) found.opened cs →
+        IsReady (judging_by s set.limits) (store_with cs []) (first_core set found) }
     ensures opening { (s : Script) (limits : Limits) (start : Store) (core : Core) (done : Bool)
         (es : Events) (to : ℕ)
-        → GivesAddresses s.name → IsValid start → IsReady (judging_of s limits) start core
+        → GivesAddresses s.name → IsValid start → IsReady (judging_by s limits) start core
         → client_op (s.commands 0) ≡ None → core.progress.event_line ≡ 0
         → MomentsRise core.moment es to → is_walk next_due done 0 core es ≡ true
-        → AllKnowTheirCopies core es → IsAskedAlong (judging_of s limits) start core es →
-        IsReady (judging_of s limits) start (steps core es)
+        → AllKnowTheirCopies core es → IsAskedAlong (judging_by s limits) start core es →
+        IsReady (judging_by s limits) start (steps core es)
         × IsNext s.commands (steps core es) 1 }
     ensures lines { (s : Script) (limits : Limits) (start : Store) (core : Core) (line : ℕ)
         (lines : List Events) (to : ℕ)
-        → GivesAddresses s.name → IsValid start → IsReady (judging_of s limits) start core
+        → GivesAddresses s.name → IsValid start → IsReady (judging_by s limits) start core
         → IsNext s.commands core line
         → MomentsRise core.moment (all_events lines) to → AreLines s line core lines
         → AllKnowTheirCopies core (all_events lines)
-        → IsAskedAlong (judging_of s limits) start core (all_events lines) →
-        IsReady (judging_of s limits) start (steps core (all_events lines)) }
+        → IsAskedAlong (judging_by s limits) start core (all_events lines) →
+        IsReady (judging_by s limits) start (steps core (all_events lines)) }
     ensures answers { (s : Script) (limits : Limits) (start : Store) (core : Core) (line : ℕ)
         (lines : List Events) (to : ℕ)
-        → GivesAddresses s.name → IsValid start → IsReady (judging_of s limits) start core
+        → GivesAddresses s.name → IsValid start → IsReady (judging_by s limits) start core
         → IsNext s.commands core line
         → MomentsRise core.moment (all_events lines) to → AreLines s line core lines
         → AllKnowTheirCopies core (all_events lines)
-        → IsAskedAlong (judging_of s limits) start core (all_events lines) →
-        AreAnswers (judging_of s limits) start (told_of (steps core (all_events lines))) }
+        → IsAskedAlong (judging_by s limits) start core (all_events lines) →
+        AreAnswers (judging_by s limits) start (told_of (steps core (all_events lines))) }
 {
     a_line_asks_as_its_command();
     each_event_is_told();
