@@ -69,7 +69,7 @@ jobs_left entries task rest (SealsFirst first others all is j) n = absurd (n fir
 
 -- ---- more jobs
 
-jobs_and : (entries : List (ℕ × Entry)) (tasks : List Task) (queue : List Queued) → AreJobs entries tasks → AreJobs (entries ++ flat_map entry_for queue) (tasks ++ flat_map tasks_for queue)
+pub jobs_and : (entries : List (ℕ × Entry)) (tasks : List Task) (queue : List Queued) → AreJobs entries tasks → AreJobs (entries ++ flat_map entry_for queue) (tasks ++ flat_map tasks_for queue)
 jobs_and entries tasks queue j = record {
   queue = j.queue ++ queue;
   all = ap (λ es. es ++ flat_map entry_for queue) j.all ∙ sym (flat_map-append entry_for j.queue queue);

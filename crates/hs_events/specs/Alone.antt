@@ -1,12 +1,11 @@
 -- A core of one copy a shard: each peer is good, leads its shard and has the jobs of what it has not sealed.
 use Rattle.std.specs.List.{All, enumerate_from}
 use Rattle.std.specs.Map.{values_of}
-use Rattle.std.specs.Option.{option_map_or}
-use Rattle.std.specs.Prelude.{◌≡◌, ◌⊎◌, ℕ, ◌<◌, ◌≤◌, true, false, List, [], ◌∷◌, ◌++◌, Option, Some, None, flat_map, length, slice_index_or}
+use Rattle.std.specs.Prelude.{◌≡◌, ◌⊎◌, ℕ, ◌<◌, ◌≤◌, true, false, List, [], ◌∷◌, ◌++◌, length, slice_index_or}
 pub use Rattle.hs_anatomy.specs.Rounds.{is_round}
+pub use Rattle.hs_core_copies.specs.Jobs.{AreBegun, AreJobs, HasJobs, Queued, entry_for, seal_of, tasks_for}
 use Rattle.hs_core_words.specs.declared.task.Task.{Task}
 use Rattle.hs_core_words.specs.State.{Core}
-use Rattle.hs_desk.specs.declared.job.Job.TheVariants as job
 use Rattle.hs_entry.specs.declared.entry.Entry.{Entry}
 use Rattle.hs_entry.specs.Entries.{is_of_base}
 use Rattle.hs_limits.specs.declared.limits.PeerStatus.TheVariants.{Good}
@@ -15,45 +14,6 @@ use Rattle.hs_members.specs.Members.{Members, status}
 use Rattle.hs_post.specs.Pool.{Pool}
 use Rattle.hs_replica.specs.declared.replica.Replica.{Replica}
 use Rattle.hs_replica.specs.Group.{Group, entries_above, last_number, new_group, no_copy}
-
--- ---- jobs
-
--- an entry of this number, to be appended and then sealed, or a Read of it for the operation of a line
-pub record Queued : Type 0 where
-  pub number : ℕ
-  pub entry : Option Entry
-  pub line : ℕ
-
-abbrev pub seal_of : ℕ → Task
-seal_of number = record { job = job.Seal number; line = 0 }
-
-abbrev pub tasks_for : Queued → List Task
-tasks_for queued = by_kind queued.entry
-  where
-    by_kind : Option Entry → List Task
-    by_kind (Some entry) = record { job = job.Append queued.number entry; line = 0 } ∷ seal_of queued.number ∷ []
-    by_kind None = record { job = job.Read queued.number; line = queued.line } ∷ []
-
-abbrev pub entry_for : Queued → List (ℕ × Entry)
-entry_for queued = option_map_or (λ entry. (queued.number, entry) ∷ []) queued.entry []
-
--- these are the jobs of these entries: each is appended and then sealed, with Reads before or behind
-pub record AreJobs (entries : List (ℕ × Entry)) (tasks : List Task) : Type 0 where
-  pub queue : List Queued
-  pub all : entries ≡ flat_map entry_for queue
-  pub jobs : tasks ≡ flat_map tasks_for queue
-
--- and these, where the first entry was appended: its Seal comes first
-pub record AreBegun (entries : List (ℕ × Entry)) (tasks : List Task) : Type 0 where
-  pub first : ℕ × Entry
-  pub others : List (ℕ × Entry)
-  pub behind : List Task
-  pub all : entries ≡ first ∷ others
-  pub jobs : tasks ≡ seal_of first.0 ∷ behind
-  pub rest : AreJobs others behind
-
-abbrev pub HasJobs : List (ℕ × Entry) → List Task → Type 0
-HasJobs entries tasks = AreJobs entries tasks ⊎ AreBegun entries tasks
 
 -- ---- one shard
 

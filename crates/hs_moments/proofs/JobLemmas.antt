@@ -1,11 +1,11 @@
 -- What is next in a peer's queue, and that its jobs are those of what it has not sealed.
 use Rattle.std.proofs.Common.{◌≡◌, ◌∙◌, ◌⊎◌, ap, sym, subst, inl, inr, ℕ, ◌+◌, ◌-◌, ◌≤◌, false, List, [], ◌∷◌, ◌++◌, Option, Some, None, refl, arith, length}
 use Rattle.std.proofs.lemmas.List.{append_assoc, drop-append-le, drop-drop, drop_all, drop_at, length-append, take_all}
-use Rattle.std.proofs.lemmas.List.Concat.{flat_map-append}
 use Rattle.std.proofs.lemmas.List.Elements.{All-append}
 use Rattle.std.proofs.lemmas.List.FromFn.{length-enumerate_from}
 use Rattle.std.specs.List.{All, enumerate_from, flat_map}
 use Rattle.std.specs.Prelude.{drop, take}
+use Rattle.hs_core_copies.proofs.JobLemmas.{jobs_and}
 use Rattle.hs_core_words.specs.declared.task.Task.{Task}
 use Rattle.hs_desk.specs.declared.job.Job.TheVariants as job
 use Rattle.hs_entry.specs.declared.entry.Entry.{Entry}
@@ -57,13 +57,6 @@ next_of entries tasks j = by_queue j.queue j.all j.jobs
 
 -- ---- more jobs
 
-are_more : (entries : List (ℕ × Entry)) (tasks : List Task) (queue : List Queued) → AreJobs entries tasks → AreJobs (entries ++ flat_map entry_for queue) (tasks ++ flat_map tasks_for queue)
-are_more entries tasks queue j = record {
-  queue = j.queue ++ queue;
-  all = ap (λ es. es ++ flat_map entry_for queue) j.all ∙ sym (flat_map-append entry_for j.queue queue);
-  jobs = ap (λ ts. ts ++ flat_map tasks_for queue) j.jobs ∙ sym (flat_map-append tasks_for j.queue queue);
-}
-
 pub begun_more : (entries : List (ℕ × Entry)) (tasks : List Task) (queue : List Queued) → AreBegun entries tasks → AreBegun (entries ++ flat_map entry_for queue) (tasks ++ flat_map tasks_for queue)
 begun_more entries tasks queue b = record {
   first = b.first;
@@ -71,7 +64,7 @@ begun_more entries tasks queue b = record {
   behind = b.behind ++ flat_map tasks_for queue;
   all = ap (λ es. es ++ flat_map entry_for queue) b.all;
   jobs = ap (λ ts. ts ++ flat_map tasks_for queue) b.jobs;
-  rest = are_more b.others b.behind queue b.rest;
+  rest = jobs_and b.others b.behind queue b.rest;
 }
 
 -- ---- the entries above a number
@@ -107,7 +100,7 @@ above_front g s e = let none : s - g.front ≡ 0 = omega (arith, e) in ap (λ k.
 pub are_grow : (g h : Group) (ts us : List Task) (a : Goes g h ts us) (s : ℕ) → h.front ≤ s → s ≤ last_number g → AreJobs (entries_above s g) ts → AreJobs (entries_above s h) us
 are_grow g h ts us a s low high j =
     let new : entries_above s h ≡ entries_above s g ++ flat_map entry_for a.queue = above_goes g h ts us a s low high ∙ ap (λ es. entries_above s g ++ es) (sym a.entries) in
-    subst (λ es. AreJobs es us) (sym new) (subst (λ (vs : List Task). AreJobs (entries_above s g ++ flat_map entry_for a.queue) vs) (sym a.jobs) (are_more (entries_above s g) ts a.queue j))
+    subst (λ es. AreJobs es us) (sym new) (subst (λ (vs : List Task). AreJobs (entries_above s g ++ flat_map entry_for a.queue) vs) (sym a.jobs) (jobs_and (entries_above s g) ts a.queue j))
 
 -- the entry that was appended stays so
 pub record BegunAs (first : ℕ × Entry) (entries : List (ℕ × Entry)) (tasks : List Task) : Type 0 where
