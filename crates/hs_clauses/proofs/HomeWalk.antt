@@ -1,8 +1,7 @@
 -- Each event keeps the jobs that read in the queues of their operations' shards.
-use Rattle.std.proofs.Common.{◌≡◌, sym, subst, ℕ, zero, suc, ◌+◌, ◌-◌, ◌<◌, ◌≤◌, ◌==◌, Bool, true, false, cond, not, List, [], ◌∷◌, drop, length, Option, Some, None, is_some, refl, arith, nat_le, nat_lt}
+use Rattle.std.proofs.Common.{◌≡◌, sym, subst, ℕ, ◌+◌, ◌-◌, ◌<◌, ◌≤◌, ◌==◌, Bool, true, false, cond, List, [], ◌∷◌, drop, length, Option, Some, None, refl, arith, nat_lt}
 use Rattle.std.proofs.lemmas.Bool.Decides.{nat_tests}
 use Rattle.std.specs.BTreeMap.{insert_entry}
-use Rattle.std.specs.List.{list_all}
 use Rattle.std.specs.Ordering.{nat_cmp}
 use Rattle.std.specs.Prelude.{if◌then◌else◌}
 use Rattle.hs_anatomy.proofs.EventLemmas.{does_acts, opening_acts}
@@ -12,61 +11,35 @@ use Rattle.hs_anatomy.specs.Acts.{Aside, Copies, Empties, Hears, Loses, Repeats,
 use Rattle.hs_anatomy.specs.Strokes.{Adds, Answers, BeginsAgain, Besides, Follows, IsStill, Leaves, Notes, Proposes, Reads, Renews, SendsAgain, Still, Stroke, TakesOut, TurnsGood, Waits}
 use Rattle.hs_awaiting.specs.declared.wait.Wait.TheVariants as wait
 use Rattle.hs_awaiting.specs.declared.waiting.Waiting.{Waiting}
-use Rattle.hs_awaiting.specs.Words.{change_if, change_with, each, times}
-use Rattle.hs_core_words.specs.Asking.{deliver, lose, no_peer, not_down, not_up, nudge, nudge_good, send_again, send_round, send_rounds}
-use Rattle.hs_core_words.specs.Changing.{add_entry_tasks, add_operation, change_group, change_pool, change_rejoin, note, post, refuse, set_catalogue, set_rejoin, set_status, set_tasks, set_viewed}
+use Rattle.hs_awaiting.specs.Words.{change_with, each}
+use Rattle.hs_core_words.specs.Changing.{add_entry_tasks, add_operation, change_group, change_pool, change_rejoin, post, set_status, set_viewed}
 use Rattle.hs_core_words.specs.declared.event.Event.{Event}
 use Rattle.hs_core_words.specs.declared.event.Event.TheVariants as event
-use Rattle.hs_core_words.specs.declared.task.Task.{Task}
-use Rattle.hs_core_words.specs.Delivering.{handle, is_new_round, take_copy}
-use Rattle.hs_core_words.specs.Effects.{after_entry, commit, commit_next, is_for_view, note_enter, note_sweep, reach_view, round_messages, take_effect, tell_enter, tell_operation, wakes}
-use Rattle.hs_core_words.specs.Entering.{is_enter_due, propose_due}
-use Rattle.hs_core_words.specs.Failing.{commit_rest, go_down, leave}
-use Rattle.hs_core_words.specs.Joining.{begin_joining, follow_lead, is_level_with_lead, join, join_if_level, joining_peers, start}
-use Rattle.hs_core_words.specs.Looking.{catalogue_of, first_task, front_of, group_of, home, lead_of, operation_of, shape_of, shards_of, status_of, tasks_of}
-use Rattle.hs_core_words.specs.Opening.{begin_views, note_down, note_if_down}
-use Rattle.hs_core_words.specs.Operating.{begin_line, busy_line, carry_out, go_on_with, lines_where, propose_entry, resume, resume_where, take_step, wait_for, what_holds}
-use Rattle.hs_core_words.specs.Pending.{named}
-use Rattle.hs_core_words.specs.Reporting.{is_reading, on_report, take_report, tell_bytes}
-use Rattle.hs_core_words.specs.Seeing.{pointers_for, view_for}
+use Rattle.hs_core_words.specs.Effects.{round_messages}
+use Rattle.hs_core_words.specs.Joining.{begin_joining, follow_lead, joining_peers, start}
+use Rattle.hs_core_words.specs.Looking.{catalogue_of, group_of, home, lead_of, operation_of, shape_of, tasks_of}
+use Rattle.hs_core_words.specs.Opening.{begin_views, note_down}
+use Rattle.hs_core_words.specs.Operating.{begin_line, busy_line, carry_out, take_step, wait_for, what_holds}
+use Rattle.hs_core_words.specs.Seeing.{view_for}
 use Rattle.hs_core_words.specs.State.{Core}
 use Rattle.hs_core_words.specs.Step.{do_event, end_event, keep_entries, line_of, refuse_entries, step}
-use Rattle.hs_core_words.specs.Views.{begin_view, change_view, restart}
-use Rattle.hs_desk.specs.Answers.{answers}
-use Rattle.hs_desk.specs.declared.done.Done.{Done}
-use Rattle.hs_desk.specs.declared.done.Done.TheVariants as done
-use Rattle.hs_desk.specs.declared.what.What.{What}
-use Rattle.hs_desk.specs.declared.what.What.TheVariants as what
 use Rattle.hs_effects.proofs.LookLemmas.{found_insert, found_set}
 use Rattle.hs_entry.specs.declared.entry.Entry.{Entry}
-use Rattle.hs_entry.specs.declared.entry.Entry.TheVariants as kind
-use Rattle.hs_journal.specs.declared.entry.Who.TheVariants as who
-use Rattle.hs_limits.specs.declared.address.Address.{Address}
-use Rattle.hs_limits.specs.declared.limits.PeerStatus.TheVariants.{Down, Good}
-use Rattle.hs_members.specs.Members.{all_peers, has_good, is_good_status, view_of}
+use Rattle.hs_limits.specs.declared.limits.PeerStatus.TheVariants.{Down}
 use Rattle.hs_model.specs.declared.command.Command.{Command}
-use Rattle.hs_model.specs.declared.deed.Deed.TheVariants as deed
 use Rattle.hs_model.specs.declared.op.Op.{Op}
-use Rattle.hs_model.specs.declared.reply.Reply.TheVariants as reply
 use Rattle.hs_moments.proofs.AloneEventLemmas.{begun, step_is}
-use Rattle.hs_core_copies.proofs.WalkLemmas.{message_by, unless_by}
 use Rattle.hs_ops.specs.declared.step.OpStep.{OpStep}
 use Rattle.hs_ops.specs.declared.step.OpStep.TheVariants.{Answer, Compare, Propose, Wait}
-use Rattle.hs_ops.specs.Operations.{Operation, after_step, bytes_step, effect_step, go_step, new_operation}
+use Rattle.hs_ops.specs.Operations.{after_step, go_step, new_operation}
 use Rattle.hs_ops.specs.Speaking.{judging_shard}
 use Rattle.hs_ops.specs.Views.{OpView}
-use Rattle.hs_post.specs.declared.message.Message.{Message}
-use Rattle.hs_post.specs.declared.message.Message.TheVariants as message
-use Rattle.hs_post.specs.Pool.{is_full, without}
+use Rattle.hs_post.specs.Pool.{without}
 use Rattle.hs_clauses.proofs.HomeLemmas.{Fine, FineAt, all_behind, copied_long, emptied_long, fine_entry_tasks, fine_group, fine_over, fine_propose, fine_put, fine_queue, fine_read, fine_restart, handed_long, heard_long, later_by, new_line, renewed_long, sealed_long, taken_long}
 use Rattle.hs_clauses.specs.Home.{IsAtHome}
 use Rattle.hs_rejoin.specs.Rejoin.{copied, emptied, follow}
-use Rattle.hs_replica.specs.Group.{commit_front, committed, have, is_peer, last_number, on_copied, on_emptied, on_have, on_sealed, renew, renewal, take_committed, take_entry, takes}
+use Rattle.hs_replica.specs.Group.{committed, have, last_number, on_copied, on_emptied, on_have, on_sealed, renew, take_committed, take_entry}
 use Rattle.hs_rounds.specs.Rounds.{sent_back}
-use Rattle.hs_shard.specs.Apply.{apply}
-use Rattle.hs_shard.specs.Clients.{Applied}
-use Rattle.hs_shard.specs.declared.effect.Effect.{Effect}
-use Rattle.hs_shard.specs.Facts.{Catalogue}
 use Rattle.hs_shard.specs.Rounds.{messages}
 use Rattle.hs_told.specs.InTurn.{MayCome}
 

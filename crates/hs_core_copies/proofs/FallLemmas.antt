@@ -36,7 +36,7 @@ use Rattle.hs_post.specs.declared.message.Message.{Message}
 use Rattle.hs_post.specs.Pool.{Pool, drop_for, is_for_peer}
 use Rattle.hs_rejoin.specs.Rejoin.{Rejoin, new_rejoin}
 use Rattle.hs_replica.specs.Group.{Group, IsHome, copy_of, first_peer, is_peer, lead, on_view, told, view_messages}
-use Rattle.hs_core_copies.proofs.GoingLemmas.{Goes, GoesFalling, Keeps, Moves, falling_of, falling_then, goes_after, goes_then, moves_both, moves_same}
+use Rattle.hs_core_copies.proofs.GoingLemmas.{Goes, GoesFalling, Keeps, Moves, falling_of, falling_then, moves_both, moves_same}
 use Rattle.hs_core_copies.proofs.BesideLemmas.{IsBeside, home_of_peer, moves_beside, peer_of_shard, rejoin_beside}
 use Rattle.hs_core_copies.proofs.DeliverLemmas.{Fewer}
 use Rattle.hs_core_copies.proofs.JobLemmas.{tasks_either}

@@ -1,6 +1,6 @@
 -- How a shard goes on: quietly, with a good peer that falls, or by a report that tells of a list.
-use Rattle.std.proofs.Common.{◌≡◌, ◌≢◌, ◌⊎◌, ◌∙◌, ap, sym, subst, refl, inl, inr, arith, ℕ, ◌≤◌, List, [], ◌++◌, length}
-use Rattle.hs_copies.proofs.ListLemmas.{front_length, front_refl, front_trans}
+use Rattle.std.proofs.Common.{◌≡◌, ◌≢◌, ◌⊎◌, ◌∙◌, sym, subst, inl, inr, arith, ℕ, ◌≤◌, List, [], ◌++◌, length}
+use Rattle.hs_copies.proofs.ListLemmas.{front_trans}
 use Rattle.hs_copies.proofs.QuietLemmas.{Grows, Stays, grows_on, same_stays, stays_on}
 use Rattle.hs_copies.proofs.SendLemmas.{after_append, allowed_append}
 use Rattle.hs_copies.specs.Lists.{IsFront, Item}

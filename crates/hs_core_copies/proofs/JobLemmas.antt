@@ -1,9 +1,9 @@
 -- The jobs of a peer are those of what it has not sealed: what is added to them, and what is left of them.
-use Rattle.std.proofs.Common.{◌≡◌, ◌≢◌, ◌⊎◌, ◌∙◌, ap, sym, subst, refl, inl, inr, arith, ℕ, ◌+◌, ◌-◌, ◌<◌, ◌≤◌, true, List, [], ◌∷◌, ◌++◌, Option, Some, None, flat_map, length}
+use Rattle.std.proofs.Common.{◌≡◌, ◌≢◌, ◌⊎◌, ◌∙◌, ap, sym, subst, refl, inl, inr, arith, ℕ, ◌+◌, ◌-◌, ◌<◌, ◌≤◌, List, [], ◌∷◌, ◌++◌, Option, Some, None, flat_map, length}
 use Rattle.std.proofs.lemmas.Bool.{cases_eq, cases_lt}
 use Rattle.std.proofs.lemmas.List.{append-nil, append_assoc, length-append, length-set}
 use Rattle.std.proofs.lemmas.List.Concat.{flat_map-append}
-use Rattle.std.specs.Prelude.{drop, slice_get}
+use Rattle.std.specs.Prelude.{slice_get}
 use Rattle.hs_copies.proofs.CallLemmas.{get_end, propose_is}
 use Rattle.hs_copies.proofs.HomeLemmas.{set_other, set_same}
 use Rattle.hs_core_words.specs.declared.task.Task.{Task}
@@ -17,7 +17,7 @@ use Rattle.hs_replica.specs.declared.replica.Replica.{Replica}
 use Rattle.hs_replica.specs.Group.{Group, IsHome, copy_of, last_number, lead, length_of, propose, stamp, take_entry}
 use Rattle.hs_core_copies.proofs.PlaceLemmas.{tasks_here, tasks_other, tasks_past}
 use Rattle.hs_core_copies.proofs.UnsealedLemmas.{IsHeld, between, between_more, between_next, unsealed_by}
-use Rattle.hs_core_copies.specs.Jobs.{AreBegun, AreJobs, HasItsJobs, HasJobs, Queued, entry_for, seal_of, tasks_for, unsealed}
+use Rattle.hs_core_copies.specs.Jobs.{AreJobs, HasItsJobs, HasJobs, Queued, entry_for, seal_of, tasks_for, unsealed}
 
 abbrev pub read_of : ℕ → ℕ → Task
 read_of number line = record { job = job.Read number; line = line }

@@ -9,7 +9,7 @@ use Rattle.hs_copies.proofs.StandLemmas.{HasLead, good_copy, good_home, good_pee
 use Rattle.hs_copies.specs.Lists.{Item}
 use Rattle.hs_copies.specs.Machine.{Copies, EntryNotice, SealedNotice, after_events}
 use Rattle.hs_core_words.specs.declared.event.Event.{Event}
-use Rattle.hs_core_words.specs.Looking.{front_of, group_of, lead_of, status_of}
+use Rattle.hs_core_words.specs.Looking.{group_of, status_of}
 use Rattle.hs_core_words.specs.Opening.{Taken, open_core}
 use Rattle.hs_core_words.specs.State.{Core}
 use Rattle.hs_core_words.specs.Step.{step}
@@ -20,7 +20,7 @@ use Rattle.hs_limits.specs.declared.shape.Shape.{Shape}
 use Rattle.hs_members.specs.Members.{is_good_status}
 use Rattle.hs_post.specs.declared.message.Message.{Message}
 use Rattle.hs_post.specs.declared.message.Message.TheVariants as message
-use Rattle.hs_replica.specs.Group.{Group, IsHome, copy_of, last_number, length_of}
+use Rattle.hs_replica.specs.Group.{IsHome, copy_of, last_number}
 use Rattle.hs_core_copies.proofs.BesideLemmas.{home_of_peer}
 use Rattle.hs_core_copies.proofs.LeadLemmas.{good_as_told}
 use Rattle.hs_core_copies.proofs.OpeningLemmas.{run_in_step}
@@ -29,7 +29,7 @@ use Rattle.hs_core_copies.proofs.StepsLemmas.{steps_on}
 use Rattle.hs_core_copies.proofs.UnsealedLemmas.{IsHeld, waits_at}
 use Rattle.hs_core_copies.proofs.UpLemmas.{front_known, known_within}
 use Rattle.hs_core_copies.specs.InStep.{GoesOn, IsInStep, IsOf, IsUnderWay, copies_in}
-use Rattle.hs_core_copies.specs.Knowing.{HasSealed, IsInLine, IsKnown, KnowsItsCopies, TellsWhatIs}
+use Rattle.hs_core_copies.specs.Knowing.{IsInLine, IsKnown, KnowsItsCopies, TellsWhatIs}
 use Rattle.hs_core_copies.specs.Opening.{MayOpen, OpensAs, opened_with}
 use Rattle.hs_core_copies.specs.Runs.{core_after}
 

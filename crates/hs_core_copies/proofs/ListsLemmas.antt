@@ -1,15 +1,14 @@
 -- Each list is what is told of it, with what waits behind it.
-use Rattle.std.proofs.Common.{◌≡◌, ◌≢◌, ◌⊎◌, ◌∙◌, ap, sym, subst, refl, inl, inr, arith, ℕ, zero, suc, ◌+◌, ◌-◌, ◌<◌, ◌≤◌, Bool, true, false, if◌then◌else◌, List, [], ◌∷◌, ◌++◌, Some, None, length, map}
+use Rattle.std.proofs.Common.{◌≡◌, ◌≢◌, ◌⊎◌, ◌∙◌, ap, sym, inl, inr, arith, ℕ, zero, suc, ◌+◌, ◌-◌, ◌<◌, ◌≤◌, if◌then◌else◌, List, [], ◌∷◌, ◌++◌, None, length, map}
 use Rattle.std.proofs.lemmas.List.{append-nil, length-map, length-take-le, take-append-drop}
 use Rattle.std.proofs.lemmas.List.FromFn.{length-enumerate_from}
 use Rattle.std.proofs.lemmas.Option.{slice_get_within}
 use Rattle.std.specs.List.{enumerate_from}
 use Rattle.std.specs.Prelude.{drop, take}
-use Rattle.hs_copies.proofs.ListLemmas.{front_append, front_length, front_refl}
+use Rattle.hs_copies.proofs.ListLemmas.{front_length}
 use Rattle.hs_copies.proofs.PeerLemmas.{put_cases}
-use Rattle.hs_copies.proofs.QuietLemmas.{IsQuiet, Stays, quiet_lists, quiet_seals}
+use Rattle.hs_copies.proofs.QuietLemmas.{IsQuiet, quiet_lists, quiet_seals}
 use Rattle.hs_copies.proofs.StandLemmas.{length_is}
-use Rattle.hs_copies.specs.CoreCopies.{opens_good}
 use Rattle.hs_copies.specs.Lists.{IsFront, Item}
 use Rattle.hs_copies.specs.Machine.{CanCome, CanComeAll, Cleared, Copied, Copies, CopyComes, CopyEvent, Copying, Fail, Following, GiveUp, Good, HaveComes, IsCommon, Join, PeerCopy, Propose, Sealed, Send, Start, TakesEffect, after_event, after_events, put_at}
 use Rattle.hs_core_words.specs.declared.event.Event.{Event}

@@ -5,10 +5,9 @@ use Rattle.std.proofs.lemmas.List.{drop-drop, drop-take}
 use Rattle.std.specs.List.{enumerate_from}
 use Rattle.std.specs.Option.{option_map}
 use Rattle.std.specs.Prelude.{drop, slice_get, take, unwrap_or}
-use Rattle.hs_copies.proofs.ListLemmas.{front_length}
-use Rattle.hs_copies.proofs.StandLemmas.{HasLead, good_peer, length_is, stands_lead}
+use Rattle.hs_copies.proofs.StandLemmas.{good_peer, length_is}
 use Rattle.hs_copies.specs.Lists.{IsFront, Item}
-use Rattle.hs_copies.specs.Machine.{Clearing, Copies, Following, Good as GoodStage}
+use Rattle.hs_copies.specs.Machine.{Copies, Following, Good as GoodStage}
 use Rattle.hs_copies.specs.Standing.{stage_of}
 use Rattle.hs_core_words.specs.declared.task.Task.{Task}
 use Rattle.hs_core_words.specs.Looking.{first_job, first_task, group_of, lead_of, sealed_of, status_of}
@@ -18,17 +17,17 @@ use Rattle.hs_desk.specs.declared.job.Job.TheVariants as job
 use Rattle.hs_entry.specs.declared.entry.Entry.{Entry}
 use Rattle.hs_limits.specs.declared.limits.PeerStatus.TheVariants.{Good, Joining}
 use Rattle.hs_members.specs.Members.{is_good_status}
-use Rattle.hs_rejoin.specs.Rejoin.{Rejoin, new_rejoin, next_job}
+use Rattle.hs_rejoin.specs.Rejoin.{Rejoin, new_rejoin}
 use Rattle.hs_replica.specs.Group.{Group, IsHome, copy_of, lead, length_of}
 use Rattle.hs_core_copies.proofs.BesideLemmas.{home_of_peer}
 use Rattle.hs_core_copies.proofs.JobLemmas.{AppendsFirst, FirstTask, ReadsFirst, SealsFirst}
 use Rattle.hs_core_copies.proofs.LeadLemmas.{good_as_told, lead_is}
-use Rattle.hs_core_copies.proofs.ReportLemmas.{IsCopyStep, IsQueued, IsStepping, copies_next, found, queued_first, resets}
-use Rattle.hs_core_copies.proofs.StepLemmas.{held_in_step, lead_in_step}
+use Rattle.hs_core_copies.proofs.ReportLemmas.{IsQueued, IsStepping, found, queued_first}
+use Rattle.hs_core_copies.proofs.StepLemmas.{held_in_step}
 use Rattle.hs_core_copies.proofs.UnsealedLemmas.{IsFirst, IsHeld, between, between_first, between_is, get_dropped, get_mapped, numbered_drop}
 use Rattle.hs_core_copies.specs.InStep.{IsInStep, IsOf, copies_in, rejoin_at}
 use Rattle.hs_core_copies.specs.Jobs.{unsealed}
-use Rattle.hs_core_copies.specs.Next.{IsNextFor, IsNextToCopy, IsNextToEmpty, IsNextToSeal}
+use Rattle.hs_core_copies.specs.Next.{IsNextFor, IsNextToCopy, IsNextToSeal}
 
 -- ---- fronts
 

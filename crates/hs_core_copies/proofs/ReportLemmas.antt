@@ -41,8 +41,8 @@ use Rattle.hs_model.specs.declared.reply.Reply.TheVariants as reply
 use Rattle.hs_rejoin.specs.Rejoin.{Rejoin, copied, emptied, new_rejoin, next_job}
 use Rattle.hs_replica.specs.declared.replica.Replica.{Replica}
 use Rattle.hs_replica.specs.Group.{Group, IsHome, copy_of, have, is_peer, lead, length_of, on_copied, on_emptied, on_sealed}
-use Rattle.hs_core_copies.proofs.GoingLemmas.{GoesFalling, GoesTold, IsTold, Keeps, Moves, falling_of, goes_then, lists_of, moves_both, moves_same, told_of, told_then}
-use Rattle.hs_core_copies.proofs.BesideLemmas.{IsBeside, group_beside, home_of_peer, moves_beside, moves_quiet, posts_beside, seated_post, tasks_beside, keeps_beside, keeps_quiet}
+use Rattle.hs_core_copies.proofs.GoingLemmas.{GoesFalling, GoesTold, IsTold, Keeps, Moves, falling_of, lists_of, moves_both, moves_same, told_of, told_then}
+use Rattle.hs_core_copies.proofs.BesideLemmas.{IsBeside, group_beside, home_of_peer, moves_beside, posts_beside, seated_post, tasks_beside, keeps_beside, keeps_quiet}
 use Rattle.hs_core_copies.proofs.FallLemmas.{IsLost, MovesOrLost, after_leave, falls, or_keeps, or_moves, same_jobs}
 use Rattle.hs_core_copies.proofs.JobLemmas.{AppendsFirst, FirstTask, ReadsFirst, SealsFirst, first_of_jobs, jobs_left, tasks_either}
 use Rattle.hs_core_copies.proofs.LeadLemmas.{good_as_told, lead_is}

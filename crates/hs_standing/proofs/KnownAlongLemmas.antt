@@ -9,7 +9,7 @@ use Rattle.hs_events.specs.Whole.{Whole, step_whole}
 use Rattle.hs_moments.proofs.SaneLemmas.{sane_stays}
 use Rattle.hs_standing.proofs.LinesStepLemmas.{step_ended}
 use Rattle.hs_standing.proofs.SaneKnownLemmas.{sane_knows, sane_seated}
-use Rattle.hs_standing.specs.Copies.{AllKnowTheirCopies, IsSeated, KnowsItsCopies}
+use Rattle.hs_standing.specs.Copies.{AllKnowTheirCopies}
 use Rattle.hs_standing.specs.Run.{IsRunning, RunsBefore}
 use Rattle.hs_standing.specs.Start.{Start}
 
