@@ -3,23 +3,24 @@ use Rattle.std.proofs.Common.{eqb-true, if◌then◌else◌, max, ◌≡◌, ◌
 use Rattle.std.proofs.lemmas.Bool.{cases_eq}
 use Rattle.std.proofs.lemmas.List.{length-set}
 use Rattle.std.specs.Prelude.{drop}
+use Rattle.hs_anatomy.proofs.EventLemmas.{does_by}
 use Rattle.hs_anatomy.specs.Acts.{begun}
 use Rattle.hs_awaiting.specs.Words.{change_if, change_with}
 use Rattle.hs_copies.proofs.StatusLemmas.{become_here}
 use Rattle.hs_copies.specs.Machine.{Copies}
-use Rattle.hs_core_words.specs.Asking.{deliver, lose, no_peer, not_down, not_up, nudge, nudge_good, send_again, send_round, send_rounds}
-use Rattle.hs_core_words.specs.Changing.{add_entry_tasks, change_group, change_pool, change_rejoin, note, post, refuse, set_tasks}
+use Rattle.hs_core_words.specs.Asking.{nudge, send_round, send_rounds}
+use Rattle.hs_core_words.specs.Changing.{add_entry_tasks, change_group, change_pool, change_rejoin, note, post, set_tasks}
 use Rattle.hs_core_words.specs.declared.event.Event.{Event}
 use Rattle.hs_core_words.specs.declared.event.Event.TheVariants as event
 use Rattle.hs_core_words.specs.declared.task.Task.{Task}
 use Rattle.hs_core_words.specs.Delivering.{handle, is_new_round, take_copy}
 use Rattle.hs_core_words.specs.Effects.{commit, round_messages}
 use Rattle.hs_core_words.specs.Entering.{propose_due}
-use Rattle.hs_core_words.specs.Failing.{fail_disk, go_down}
-use Rattle.hs_core_words.specs.Joining.{follow_lead, is_level_with_lead, join, join_if_level, start}
+use Rattle.hs_core_words.specs.Failing.{fail_disk}
+use Rattle.hs_core_words.specs.Joining.{follow_lead, is_level_with_lead, join, join_if_level}
 use Rattle.hs_core_words.specs.Looking.{catalogue_of, first_task, group_of, home, lead_of, sealed_of, status_of, tasks_of}
 use Rattle.hs_core_words.specs.Operating.{propose_entry}
-use Rattle.hs_core_words.specs.Reporting.{on_report, take_report}
+use Rattle.hs_core_words.specs.Reporting.{take_report}
 use Rattle.hs_core_words.specs.State.{Core}
 use Rattle.hs_core_words.specs.Step.{begin_event, do_event, end_event, keep_entries, line_of, refuse_entries, run_event, step}
 use Rattle.hs_core_copies.proofs.BesideLemmas.{keeps_quiet}
@@ -27,7 +28,6 @@ use Rattle.hs_core_copies.proofs.FallLemmas.{IsLost}
 use Rattle.hs_core_copies.proofs.LeadLemmas.{lead_is}
 use Rattle.hs_core_copies.proofs.ReportLemmas.{IsQueued, copy_is, fails_same, found, queued_copy, queued_disk, queued_reset, reset_is, rests_apart, rests_joining}
 use Rattle.hs_core_copies.proofs.StepsLemmas.{begins, ends, lost_told, was_going}
-use Rattle.hs_core_copies.proofs.WalkLemmas.{message_by, unless_by}
 use Rattle.hs_core_copies.specs.InStep.{IsInStep}
 use Rattle.hs_desk.specs.Answers.{answers, is_append_of, is_read_of, is_reclaim, is_seal_of}
 use Rattle.hs_desk.specs.declared.done.Done.{Done}
@@ -44,11 +44,10 @@ use Rattle.hs_limits.specs.declared.address.Address.{Address}
 use Rattle.hs_limits.specs.declared.limits.PeerStatus.TheVariants.{Good, Joining}
 use Rattle.hs_members.specs.Members.{become, is_good_status, status}
 use Rattle.hs_model.specs.declared.deed.Deed.TheVariants as deed
-use Rattle.hs_model.specs.declared.reply.Reply.{Reply}
 use Rattle.hs_model.specs.declared.reply.Reply.TheVariants as reply
 use Rattle.hs_post.specs.declared.message.Message.{Message}
 use Rattle.hs_post.specs.declared.message.Message.TheVariants as message
-use Rattle.hs_post.specs.Pool.{is_empty, is_full, restart_numbers, without}
+use Rattle.hs_post.specs.Pool.{is_empty, restart_numbers, without}
 use Rattle.hs_rejoin.specs.Rejoin.{Rejoin, copied, emptied, next_job}
 use Rattle.hs_replica.specs.Group.{Group, change_copy, hears, is_peer, on_copied, on_emptied, on_have, resend, take_entry, takes}
 use Rattle.hs_rounds.specs.Rounds.{sent_back}
@@ -64,7 +63,7 @@ use Rattle.hs_quiet.proofs.EffectLemmas.{commit_good, due_operations, due_stays}
 use Rattle.hs_quiet.proofs.GoingGoodLemmas.{IsGood, NoLine, NoShard, all_most, good_stays, most_all}
 use Rattle.hs_quiet.proofs.PeerLemmas.{falls_good, follow_aside, joins_good, rests_good, starts_good}
 use Rattle.hs_quiet.proofs.ServedLemmas.{bytes_good, sealed_good, unserved_good}
-use Rattle.hs_quiet.proofs.StartLemmas.{down_there, task_low, low_home, members_all, seated_all}
+use Rattle.hs_quiet.proofs.StartLemmas.{task_low, low_home, members_all, seated_all}
 use Rattle.hs_quiet.proofs.StayLemmas.{entry_tasks_stay, group_stays, proposal_operations, proposal_stays}
 
 -- a copying step is no Seal, and no Read
@@ -159,13 +158,6 @@ module _ (name : List ℕ → Address) where
   handled_good (message.Round from to epoch round total deltas) c g =
       if_good (is_new_round to from epoch round c) (propose_entry to (kind.Got from epoch round total deltas)) c g (λ h. proposed_good to (kind.Got from epoch round total deltas) c refl h)
 
-  again_good : (line : ℕ) (m : Message) (c : Core) → G c → G (send_again line m c)
-  again_good line m c g = by_room (is_full c.pool)
-    where
-      by_room : (b : Bool) → G (cond b (refuse line (reply.PoolFull c.pool.limit) c) (post (m ∷ []) c))
-      by_room true = refused_good name NoLine NoShard line (reply.PoolFull c.pool.limit) c g
-      by_room false = posted_good name NoLine NoShard (m ∷ []) c g
-
   -- ---- a nudge
 
   due_good : (shard : ℕ) (c : Core) → G c → G (propose_due shard c)
@@ -181,17 +173,14 @@ module _ (name : List ℕ → Address) where
   rounds_good : (shard : ℕ) (c : Core) → G c → G (send_rounds shard c)
   rounds_good shard c g = round_good 0 shard (send_round 1 shard c) (round_good 1 shard c g)
 
-  nudged_good : (p : ℕ) (c : Core) → G c → G (nudge_good p c)
-  nudged_good p c g = if_good (is_good_status (status_of p c)) (nudge p) c g nudged
+  nudged_good : (p : ℕ) (c : Core) → G c → G (nudge p c)
+  nudged_good p c g = posted_good name NoLine NoShard (resend p (group_of (home p c) led)) led (led_good g)
     where
       led : Core
       led = change_if (is_peer p (lead_of (home p c) c)) (λ x. send_rounds (home p c) (propose_due (home p c) x)) c
 
       led_good : G c → G (change_if (is_peer p (lead_of (home p c) c)) (λ x. send_rounds (home p c) (propose_due (home p c) x)) c)
       led_good g = if_good (is_peer p (lead_of (home p c) c)) (λ x. send_rounds (home p c) (propose_due (home p c) x)) c g (λ h. rounds_good (home p c) (propose_due (home p c) c) (due_good (home p c) c h))
-
-      nudged : G c → G (nudge p c)
-      nudged g = posted_good name NoLine NoShard (resend p (group_of (home p c) led)) led (led_good g)
 
   -- ---- what is due of a joining peer
 
@@ -305,32 +294,21 @@ module _ (name : List ℕ → Address) where
             fails_good disk c1 up (c1_good t.joins)
       ]
 
-    report_good : (p : ℕ) (d : Done) → Ends (on_report p d c)
-    report_good p d = go (first_task p c) refl
-      where
-        answered : (task : Task) → first_task p c ≡ Some task → (b : Bool) → answers p task.job d ≡ b → Ends (on_report p d c)
-        answered task e true a = rw (e, a) (reported_good p task e d a)
-        answered task e false a = rw (e, a) (inl g)
-
-        go : (o : Option Task) → first_task p c ≡ o → Ends (on_report p d c)
-        go None e = rw e (inl g)
-        go (Some task) e = answered task e (answers p task.job d) refl
-
     -- ---- all events
 
-    refuses : (line : ℕ) (r : Reply) → G (refuse line r c)
-    refuses line r = refused_good name NoLine NoShard line r c g
-
     pub done_good : (e : Event) → MayBegin name e c → Ends (do_event e c)
-    done_good (event.Line line o) may = inl (begun_good name line o c g may.new may.counted may.called)
-    done_good (event.Report p d) may = report_good p d
-    done_good (event.Turn line p) may = inl (unless_by line (no_peer p c ∷ not_up p c ∷ []) (λ core. core) c G (refuses line) (λ e. g))
-    done_good (event.Deliver line number) may = inl (message_by line number (deliver number) c G (refuses line) (λ m at. handled_good m (change_pool (without number) c) (pool_good number c g)))
-    done_good (event.Lose line number) may = inl (message_by line number (lose number) c G (refuses line) (λ m at. pool_good number c g))
-    done_good (event.Repeat line number) may = inl (message_by line number (send_again line) c G (refuses line) (λ m at. again_good line m c g))
-    done_good (event.Nudge line p) may = inl (unless_by line (no_peer p c ∷ not_up p c ∷ []) (nudge_good p) c G (refuses line) (λ e. nudged_good p c g))
-    done_good (event.Fail line p) may = unless_by line (no_peer p c ∷ not_up p c ∷ []) (go_down p) c Ends (λ r. inl (refuses line r)) (λ e. falls_good name c all g p (led_good c all p))
-    done_good (event.Start line p) may = inl (unless_by line (no_peer p c ∷ not_down p c ∷ []) (start p) c G (refuses line) (λ e. starts_good name p c g (down_there p c e).1))
+    done_good e may = does_by c e Ends (record {
+      same = inl g;
+      refuses = λ r why. inl (refused_good name NoLine NoShard (line_of e) r c g);
+      asks = λ line o is. let m : MayBegin name (event.Line line o) c = subst (λ x. MayBegin name x c) is may in inl (begun_good name line o c g m.new m.counted m.called);
+      reports = λ p d known. reported_good p known.task known.first d known.fits;
+      comes = λ number m known. inl (handled_good m (change_pool (without number) c) (pool_good number c g));
+      loses = λ number m at. inl (pool_good number c g);
+      repeats = λ number m at room. inl (posted_good name NoLine NoShard (m ∷ []) c g);
+      nudges = λ p known. inl (nudged_good p c g);
+      falls = λ line p is none. falls_good name c all g p (led_good c all p);
+      starts = λ line p is none down. inl (starts_good name p c g down);
+    })
 
   ended_good : (c : Core) → G c → G (end_event c)
   ended_good c g = by_room (nat_lt c.limits.ops (length c.journal + length c.entries))

@@ -1,26 +1,26 @@
 -- Behind each event all is fine, until the core ends.
-use Rattle.std.proofs.Common.{◌≡◌, ◌⊎◌, ◌∙◌, ap, sym, subst, refl, inl, inr, arith, ℕ, ◌+◌, ◌-◌, ◌*◌, ◌<◌, ◌≤◌, Bool, true, false, if◌then◌else◌, List, [], ◌∷◌, ◌++◌, Option, Some, None, length, eqb-true, slice_index_or}
+use Rattle.std.proofs.Common.{◌≡◌, ◌⊎◌, ◌∙◌, ap, sym, subst, refl, inl, inr, arith, ℕ, ◌+◌, ◌-◌, ◌*◌, ◌<◌, ◌≤◌, Bool, true, false, if◌then◌else◌, List, [], ◌∷◌, ◌++◌, Some, None, length, eqb-true, slice_index_or}
 use Rattle.std.proofs.lemmas.Bool.{cases_eq, cases_lt}
 use Rattle.std.proofs.lemmas.List.Elements.{All-cons, All-nil}
 use Rattle.std.specs.Option.{option_map, option_map_or}
 use Rattle.std.specs.Prelude.{drop}
+use Rattle.hs_anatomy.proofs.EventLemmas.{does_by}
 use Rattle.hs_awaiting.specs.Words.{change_if, ◌▸◌}
 use Rattle.hs_copies.proofs.ListLemmas.{get_low}
 use Rattle.hs_copies.proofs.StandLemmas.{length_is}
 use Rattle.hs_copies.specs.Machine.{Copies, after_events}
-use Rattle.hs_core_words.specs.Asking.{deliver, lose, no_peer, not_down, not_up, nudge, nudge_good, send_again, send_rounds}
+use Rattle.hs_core_words.specs.Asking.{no_peer, not_down, nudge, send_rounds}
 use Rattle.hs_core_words.specs.Changing.{add_entry_tasks, change_group, change_pool, change_rejoin, note, post, refuse, set_tasks}
 use Rattle.hs_core_words.specs.declared.event.Event.{Event}
-use Rattle.hs_core_words.specs.declared.event.Event.TheVariants as event
 use Rattle.hs_core_words.specs.declared.task.Task.{Task}
 use Rattle.hs_core_words.specs.Delivering.{handle, is_new_round, on_copy, take_copy}
 use Rattle.hs_core_words.specs.Effects.{commit}
 use Rattle.hs_core_words.specs.Entering.{propose_due}
-use Rattle.hs_core_words.specs.Failing.{fail_disk, go_down}
+use Rattle.hs_core_words.specs.Failing.{fail_disk}
 use Rattle.hs_core_words.specs.Joining.{start}
 use Rattle.hs_core_words.specs.Looking.{first_job, first_task, group_of, home, lead_of, rejoin_of, sealed_of, shape_of, status_of, tasks_of}
 use Rattle.hs_core_words.specs.Operating.{propose_entry}
-use Rattle.hs_core_words.specs.Reporting.{on_report, take_copied, take_emptied, take_report, take_sealed}
+use Rattle.hs_core_words.specs.Reporting.{take_copied, take_emptied, take_report, take_sealed}
 use Rattle.hs_core_words.specs.State.{Core}
 use Rattle.hs_core_words.specs.Step.{do_event}
 use Rattle.hs_desk.specs.Answers.{answers, is_seal_of}
@@ -39,7 +39,7 @@ use Rattle.hs_model.specs.declared.reply.Reply.TheVariants as reply
 use Rattle.hs_model.specs.Refusals.{first}
 use Rattle.hs_post.specs.declared.message.Message.{Message}
 use Rattle.hs_post.specs.declared.message.Message.TheVariants as message
-use Rattle.hs_post.specs.Pool.{is_full, message_at, without}
+use Rattle.hs_post.specs.Pool.{message_at, without}
 use Rattle.hs_rejoin.specs.Rejoin.{Rejoin, copied, emptied}
 use Rattle.hs_replica.specs.declared.replica.Replica.{Replica}
 use Rattle.hs_replica.specs.Group.{Group, IsHome, copy_of, first_peer, have, is_peer, last_number, lead, new_group, on_copied, on_emptied, on_have, on_sealed, resend, take_entry, takes}
@@ -49,7 +49,7 @@ use Rattle.hs_core_copies.proofs.FallLemmas.{IsLost}
 use Rattle.hs_core_copies.proofs.NextLemmas.{first_is_next}
 use Rattle.hs_core_copies.proofs.PlaceLemmas.{group_here, rejoin_here}
 use Rattle.hs_core_copies.proofs.ReportLemmas.{IsStepping, copied_before, copies_next, copy_is, emptied_before, fails_same, found, queued_copy, queued_disk, queued_reset, reset_is, rests_apart, rests_joining, steps_still}
-use Rattle.hs_core_copies.proofs.WalkLemmas.{keeps_begin_line, keeps_commits, keeps_if, keeps_propose_due, keeps_send_rounds, keeps_tell_bytes, message_by, unless_by}
+use Rattle.hs_core_copies.proofs.WalkLemmas.{keeps_begin_line, keeps_commits, keeps_if, keeps_propose_due, keeps_send_rounds, keeps_tell_bytes}
 use Rattle.hs_core_copies.specs.InStep.{IsInStep, copies_in}
 use Rattle.hs_core_copies.specs.Knowing.{TellsWhatIs}
 use Rattle.hs_core_copies.specs.Next.{IsNextFor, IsNextToSeal}
@@ -124,17 +124,13 @@ module _ (s c : Core) (all : AreInStep c) (members : c.members ≡ s.members) (g
       keeps_if (steps_fine s NoOne) (is_new_round to from epoch round (change_pool (without number) c)) (propose_entry to (kind.Got from epoch round total deltas)) (change_pool (without number) c)
       (λ x k. fine_proposes s NoOne to (kind.Got from epoch round total deltas) x k) (gone_fine number)
 
-  again_fine : (line number : ℕ) (m : Message) → message_at number c.pool ≡ Some m → Fine s NoOne NoOne (send_again line m c)
-  again_fine line number m at = go (is_full c.pool)
-    where
-      go : (b : Bool) → Fine s NoOne NoOne (if b then refuse line (reply.PoolFull c.pool.limit) c else post (m ∷ []) c)
-      go true = refuses line (reply.PoolFull c.pool.limit)
-      go false = fine_post s NoOne NoOne (m ∷ []) c (All-cons (IsForGood c.members) m [] (message_has (IsForGood c.members) number c.pool m at f.receivers) (All-nil (IsForGood c.members))) f
+  again_fine : (number : ℕ) (m : Message) → message_at number c.pool ≡ Some m → Fine s NoOne NoOne (post (m ∷ []) c)
+  again_fine number m at = fine_post s NoOne NoOne (m ∷ []) c (All-cons (IsForGood c.members) m [] (message_has (IsForGood c.members) number c.pool m at f.receivers) (All-nil (IsForGood c.members))) f
 
   -- ---- a nudge
 
-  nudge_fine : (p : ℕ) → Fine s NoOne NoOne (nudge_good p c)
-  nudge_fine p = go (is_good_status (status_of p c))
+  nudge_fine : (p : ℕ) → Fine s NoOne NoOne (nudge p c)
+  nudge_fine p = fine_post s NoOne NoOne (resend p (group_of (home p c) led)) led (resend_for led.members (group_of (home p c) led) (fit_of led led_fine (home p c)) p) led_fine
     where
       led : Core
       led = change_if (is_peer p (lead_of (home p c) c)) (λ core. core ▸ propose_due (home p c) ▸ send_rounds (home p c)) c
@@ -143,10 +139,6 @@ module _ (s c : Core) (all : AreInStep c) (members : c.members ≡ s.members) (g
       led_fine =
           keeps_if (steps_fine s NoOne) (is_peer p (lead_of (home p c) c)) (λ core. core ▸ propose_due (home p c) ▸ send_rounds (home p c)) c
           (λ y k. keeps_send_rounds (steps_fine s NoOne) (home p c) (propose_due (home p c) y) (keeps_propose_due (steps_fine s NoOne) (home p c) y k)) f
-
-      go : (b : Bool) → Fine s NoOne NoOne (change_if b (nudge p) c)
-      go true = fine_post s NoOne NoOne (resend p (group_of (home p c) led)) led (resend_for led.members (group_of (home p c) led) (fit_of led led_fine (home p c)) p) led_fine
-      go false = f
 
   -- ---- reports
 
@@ -307,17 +299,6 @@ module _ (s c : Core) (all : AreInStep c) (members : c.members ≡ s.members) (g
         | inr t ↦ fails_fine disk c1 (c1_step p task first_is t.joins) members groups (c1_fine p task first_is)
       ]
 
-  report_fine : (p : ℕ) (d : Done) → Ends (on_report p d c)
-  report_fine p d = go (first_task p c) refl
-    where
-      answered : (task : Task) → first_task p c ≡ Some task → (b : Bool) → answers p task.job d ≡ b → Ends (on_report p d c)
-      answered task e true a = rw (e, a) (takes_fine p task e d a)
-      answered task e false a = rw (e, a) (inl f)
-
-      go : (o : Option Task) → first_task p c ≡ o → Ends (on_report p d c)
-      go None e = rw e (inl f)
-      go (Some task) e = answered task e (answers p task.job d) refl
-
   -- ---- lines of peers
 
   starts_up : (p : ℕ) → first (no_peer p c ∷ not_down p c ∷ []) ≡ None → Fine s NoOne NoOne (start p c)
@@ -328,14 +309,17 @@ module _ (s c : Core) (all : AreInStep c) (members : c.members ≡ s.members) (g
   -- ---- all events
 
   pub does_fine : (e : Event) → Ends (do_event e c)
-  does_fine (event.Line line o) =
-      let a : Core = record c { progress = record c.progress { last_line = line } } in
-      inl (keeps_begin_line (steps_fine s NoOne) line o c (fine_same s NoOne NoOne c a refl refl refl (λ h. h) f))
-  does_fine (event.Report p d) = report_fine p d
-  does_fine (event.Turn line p) = inl (unless_by line (no_peer p c ∷ not_up p c ∷ []) (λ core. core) c (Fine s NoOne NoOne) (refuses line) (λ e. f))
-  does_fine (event.Deliver line number) = inl (message_by line number (deliver number) c (Fine s NoOne NoOne) (refuses line) (λ m at. handles_fine number m at))
-  does_fine (event.Lose line number) = inl (message_by line number (lose number) c (Fine s NoOne NoOne) (refuses line) (λ m at. gone_fine number))
-  does_fine (event.Repeat line number) = inl (message_by line number (send_again line) c (Fine s NoOne NoOne) (refuses line) (λ m at. again_fine line number m at))
-  does_fine (event.Nudge line p) = inl (unless_by line (no_peer p c ∷ not_up p c ∷ []) (nudge_good p) c (Fine s NoOne NoOne) (refuses line) (λ e. nudge_fine p))
-  does_fine (event.Fail line p) = unless_by line (no_peer p c ∷ not_up p c ∷ []) (go_down p) c Ends (λ r. inl (refuses line r)) (λ e. falls_fine s c all members groups f p)
-  does_fine (event.Start line p) = inl (unless_by line (no_peer p c ∷ not_down p c ∷ []) (start p) c (Fine s NoOne NoOne) (refuses line) (λ e. starts_up p e))
+  does_fine e = does_by c e Ends (record {
+    same = inl f;
+    refuses = λ r why. inl (refuses (line_of e) r);
+    asks = λ line o is.
+        let a : Core = record c { progress = record c.progress { last_line = line } } in
+        inl (keeps_begin_line (steps_fine s NoOne) line o c (fine_same s NoOne NoOne c a refl refl refl (λ h. h) f));
+    reports = λ p d known. takes_fine p known.task known.first d known.fits;
+    comes = λ number m known. inl (handles_fine number m known.at);
+    loses = λ number m at. inl (gone_fine number);
+    repeats = λ number m at room. inl (again_fine number m at);
+    nudges = λ p known. inl (nudge_fine p);
+    falls = λ line p is none. falls_fine s c all members groups f p;
+    starts = λ line p is none down. inl (starts_up p none);
+  })

@@ -2,10 +2,11 @@
 use Rattle.std.proofs.Common.{◌≡◌, ◌∙◌, ap, sym, subst, refl, inl, inr, ℕ, ◌+◌, if◌then◌else◌, ◌<◌, Bool, true, false, List, [], ◌∷◌, Option, Some, None, is_none}
 use Rattle.std.specs.Option.{option_map, option_map_or}
 use Rattle.std.specs.Prelude.{drop}
+use Rattle.hs_anatomy.proofs.EventLemmas.{does_by}
 use Rattle.hs_awaiting.specs.Words.{change_if, change_with, each, ◌▸◌}
 use Rattle.hs_copies.specs.Machine.{Copies}
-use Rattle.hs_core_words.specs.Asking.{deliver, lose, no_peer, not_down, not_up, nudge, nudge_good, send_again, send_rounds}
-use Rattle.hs_core_words.specs.Changing.{add_entry_tasks, change_group, change_pool, change_rejoin, note, post, refuse, set_rejoin, set_status, set_tasks}
+use Rattle.hs_core_words.specs.Asking.{no_peer, not_down, not_up, nudge, send_rounds}
+use Rattle.hs_core_words.specs.Changing.{add_entry_tasks, change_group, change_pool, change_rejoin, note, post, set_rejoin, set_status, set_tasks}
 use Rattle.hs_core_words.specs.declared.event.Event.{Event}
 use Rattle.hs_core_words.specs.declared.event.Event.TheVariants as event
 use Rattle.hs_core_words.specs.declared.task.Task.{Task}
@@ -13,10 +14,10 @@ use Rattle.hs_core_words.specs.Delivering.{handle, is_new_round, take_copy}
 use Rattle.hs_core_words.specs.Effects.{commit}
 use Rattle.hs_core_words.specs.Entering.{propose_due}
 use Rattle.hs_core_words.specs.Failing.{commit_rest, go_down, leave}
-use Rattle.hs_core_words.specs.Joining.{begin_joining, follow_lead, is_level_with_lead, join, join_if_level, joining_peers, start}
+use Rattle.hs_core_words.specs.Joining.{begin_joining, follow_lead, is_level_with_lead, join, join_if_level, joining_peers}
 use Rattle.hs_core_words.specs.Looking.{first_task, group_of, home, lead_of, status_of, tasks_of}
 use Rattle.hs_core_words.specs.Operating.{add_read, propose_entry}
-use Rattle.hs_core_words.specs.Reporting.{on_report, take_report}
+use Rattle.hs_core_words.specs.Reporting.{take_report}
 use Rattle.hs_core_words.specs.State.{Core}
 use Rattle.hs_core_words.specs.Step.{begin_event, do_event, end_event, line_of, run_event, step}
 use Rattle.hs_core_words.specs.Views.{change_view}
@@ -24,7 +25,7 @@ use Rattle.hs_core_copies.proofs.FallLemmas.{anew, down_by}
 use Rattle.hs_core_copies.proofs.OpeningLemmas.{viewed_members}
 use Rattle.hs_core_copies.proofs.ReportLemmas.{copy_is, found, queued_copy, queued_reset, reset_is}
 use Rattle.hs_core_copies.proofs.StepsLemmas.{begins}
-use Rattle.hs_core_copies.proofs.WalkLemmas.{StepLeaves, keeps_begin_line, keeps_commits, keeps_if, keeps_propose_due, keeps_send_rounds, keeps_tell_bytes, message_by, unless_by}
+use Rattle.hs_core_copies.proofs.WalkLemmas.{StepLeaves, keeps_begin_line, keeps_commits, keeps_if, keeps_propose_due, keeps_send_rounds, keeps_tell_bytes}
 use Rattle.hs_core_copies.specs.InStep.{IsInStep}
 use Rattle.hs_desk.specs.Answers.{answers}
 use Rattle.hs_desk.specs.declared.done.Done.{Done}
@@ -41,7 +42,7 @@ use Rattle.hs_model.specs.declared.reply.Reply.TheVariants as reply
 use Rattle.hs_model.specs.Refusals.{first}
 use Rattle.hs_post.specs.declared.message.Message.{Message}
 use Rattle.hs_post.specs.declared.message.Message.TheVariants as message
-use Rattle.hs_post.specs.Pool.{is_full, without}
+use Rattle.hs_post.specs.Pool.{without}
 use Rattle.hs_rejoin.specs.Rejoin.{copied, emptied, follow}
 use Rattle.hs_replica.specs.Group.{have, is_peer, last_number, on_copied, on_emptied, on_have, on_sealed, proposal, propose, take_entry, takes}
 use Rattle.hs_quiet.specs.Keeping.{AreInStep}
@@ -129,21 +130,10 @@ handled_members (message.Have shard from to view sealed) b = go (is_good_status 
 handled_members (message.Round from to epoch round total deltas) b =
     keeps_if steps_members (is_new_round to from epoch round b) (propose_entry to (kind.Got from epoch round total deltas)) b (λ x. proposed_members to (kind.Got from epoch round total deltas) x)
 
-again_members : (line : ℕ) (m : Message) (b : Core) → (send_again line m b).members ≡ b.members
-again_members line m b = go (is_full b.pool)
-  where
-    go : (t : Bool) → (if t then refuse line (reply.PoolFull b.pool.limit) b else post (m ∷ []) b).members ≡ b.members
-    go true = refl
-    go false = refl
-
-nudged_members : (p : ℕ) (b : Core) → (nudge_good p b).members ≡ b.members
-nudged_members p b = go (is_good_status (status_of p b))
-  where
-    go : (t : Bool) → (change_if t (nudge p) b).members ≡ b.members
-    go true =
-        keeps_if steps_members (is_peer p (lead_of (home p b) b)) (λ core. core ▸ propose_due (home p b) ▸ send_rounds (home p b)) b
-        (λ y. keeps_send_rounds steps_members (home p b) (propose_due (home p b) y) ∙ keeps_propose_due steps_members (home p b) y)
-    go false = refl
+nudged_members : (p : ℕ) (b : Core) → (nudge p b).members ≡ b.members
+nudged_members p b =
+    keeps_if steps_members (is_peer p (lead_of (home p b) b)) (λ core. core ▸ propose_due (home p b) ▸ send_rounds (home p b)) b
+    (λ y. keeps_send_rounds steps_members (home p b) (propose_due (home p b) y) ∙ keeps_propose_due steps_members (home p b) y)
 
 -- ---- events
 
@@ -189,29 +179,22 @@ module _ (c : Core) (all : AreInStep c) where
         let c1 : Core = set_tasks p (drop 1 (tasks_of p c)) c in
         FailsByDisk p disk refl answer (falls_members disk (note who.Store deed.Nothing (reply.Down disk c1.progress.event_line) c1))
 
-  reports_turn : (p : ℕ) (d : Done) → TurnsBy c (event.Report p d) (on_report p d c)
-  reports_turn p d = go (first_task p c) refl
-    where
-      answered : (task : Task) → first_task p c ≡ Some task → (b : Bool) → answers p task.job d ≡ b
-          → TurnsBy c (event.Report p d) (change_if b (λ core. take_report p task.line d (set_tasks p (drop 1 (tasks_of p core)) core)) c)
-      answered task e true a = takes_turns p task e d a
-      answered task e false a = Stays refl
-
-      go : (o : Option Task) → first_task p c ≡ o
-          → TurnsBy c (event.Report p d) (change_with o (λ task. change_if (answers p task.job d) (λ core. take_report p task.line d (set_tasks p (drop 1 (tasks_of p core)) core))) c)
-      go None e = Stays refl
-      go (Some task) e = answered task e (answers p task.job d) refl
-
   does_turn : (e : Event) → TurnsBy c e (do_event e c)
-  does_turn (event.Line line o) = Stays (keeps_begin_line steps_members line o c)
-  does_turn (event.Report p d) = reports_turn p d
-  does_turn (event.Turn line p) = unless_by line (no_peer p c ∷ not_up p c ∷ []) (λ core. core) c (TurnsBy c (event.Turn line p)) (λ r. Stays refl) (λ e. Stays refl)
-  does_turn (event.Deliver line number) = message_by line number (deliver number) c (TurnsBy c (event.Deliver line number)) (λ r. Stays refl) (λ m at. Stays (handled_members m (change_pool (without number) c)))
-  does_turn (event.Lose line number) = message_by line number (lose number) c (TurnsBy c (event.Lose line number)) (λ r. Stays refl) (λ m at. Stays refl)
-  does_turn (event.Repeat line number) = message_by line number (send_again line) c (TurnsBy c (event.Repeat line number)) (λ r. Stays refl) (λ m at. Stays (again_members line m c))
-  does_turn (event.Nudge line p) = unless_by line (no_peer p c ∷ not_up p c ∷ []) (nudge_good p) c (TurnsBy c (event.Nudge line p)) (λ r. Stays refl) (λ e. Stays (nudged_members p c))
-  does_turn (event.Fail line p) = unless_by line (no_peer p c ∷ not_up p c ∷ []) (go_down p) c (TurnsBy c (event.Fail line p)) (λ r. Stays refl) (λ e. FailsByLine line p refl e (falls_members p c))
-  does_turn (event.Start line p) = unless_by line (no_peer p c ∷ not_down p c ∷ []) (start p) c (TurnsBy c (event.Start line p)) (λ r. Stays refl) (λ e. Starts line p refl e refl)
+  does_turn e = does_by c e (TurnsBy c e) (record {
+    same = Stays refl;
+    refuses = λ r why. Stays refl;
+    asks = λ line o is. Stays (keeps_begin_line steps_members line o c);
+    reports = λ p d known. reported p d known.reported (takes_turns p known.task known.first d known.fits);
+    comes = λ number m known. Stays (handled_members m (change_pool (without number) c));
+    loses = λ number m at. Stays refl;
+    repeats = λ number m at room. Stays refl;
+    nudges = λ p known. Stays (nudged_members p c);
+    falls = λ line p is none. FailsByLine line p is none (falls_members p c);
+    starts = λ line p is none down. Starts line p is none refl;
+  })
+    where
+      reported : (p : ℕ) (d : Done) {b : Core} → Some e ≡ Some (event.Report p d) → TurnsBy c (event.Report p d) b → TurnsBy c e b
+      reported p d {b = b} is t = let same : e ≡ event.Report p d = cc is in subst (λ x. TurnsBy c x b) (sym same) t
 
 -- ---- an event at a moment
 
