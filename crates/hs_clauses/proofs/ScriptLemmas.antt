@@ -1,5 +1,5 @@
 -- The events of a script come: those that are due for opening, and those of its lines.
-use Rattle.std.proofs.Common.{◌≡◌, sym, subst, ℕ, ◌≤◌, ◌++◌, Bool, true, List, [], ◌∷◌, Option, Some, None, refl, arith}
+use Rattle.std.proofs.Common.{◌≡◌, sym, subst, ℕ, ◌≤◌, ◌++◌, Bool, true, List, [], ◌∷◌, Option, None, refl, arith}
 use Rattle.hs_answered.specs.Telling.{Judging}
 use Rattle.hs_standing.proofs.AddressedLemmas.{AllAddressed, LinesAsk, lines_addressed, settle_addressed}
 use Rattle.hs_standing.specs.Answered.{KeepsRecordRoom, TellTheirBlocks}
@@ -8,18 +8,16 @@ use Rattle.hs_core_words.specs.declared.event.Event.{Event}
 use Rattle.hs_core_words.specs.Opening.{new_core}
 use Rattle.hs_core_words.specs.State.{Core}
 use Rattle.hs_core_words.specs.Step.{step}
-use Rattle.hs_desk.specs.declared.fault.CoreFault.{CoreFault}
 use Rattle.hs_effects.specs.Logged.{MayBeginAll}
-use Rattle.hs_events.proofs.GoingLemmas.{step_goes}
 use Rattle.hs_events.specs.Course.{steps}
 use Rattle.hs_events.specs.Due.{Events, MomentsRise, is_walk, next_due}
 use Rattle.hs_events.specs.Found.{Found, first_core, opens_with}
 use Rattle.hs_events.specs.Whole.{open_whole}
 use Rattle.hs_journal.specs.Events.{client_op}
 use Rattle.hs_limits.specs.declared.address.Address.{Address}
-use Rattle.hs_standing.proofs.LinesStepLemmas.{step_ended}
 use Rattle.hs_standing.specs.Script.{AreLines, IsNext, Script, all_events}
 use Rattle.hs_model.specs.declared.command.Command.{Command}
+use Rattle.hs_clauses.proofs.AlongLemmas.{rises_front, rises_rest}
 use Rattle.hs_clauses.proofs.FirstLemmas.{Stays, opens_first}
 use Rattle.hs_clauses.specs.Along.{AllCome}
 use Rattle.hs_clauses.proofs.WholeReadLemmas.{tell_soundly}
@@ -39,34 +37,6 @@ pub record ScriptLaws : Type 0 where
   pub lines_new : (s : Script) (line : ℕ) (core : Core) (lines : List Events) (to : ℕ) → IsInTurn s.commands core → IsNext s.commands core line → MomentsRise core.moment (all_events lines) to → AreLines s line core lines → MayBeginAll s.name (all_events lines) core
   pub turns : (commands : ℕ → Option Command) (core : Core) (es : List (Event × ℕ)) → IsInTurn commands core → AllMayCome commands core es → IsInTurn commands (after_all core es)
   pub asks : (by : Judging) → LinesAsk by
-
--- ---- moments, of a front and of the rest
-
-rises_low : (from to : ℕ) (es : Events) → MomentsRise from es to → from ≤ to
-rises_low from to [] h = h
-rises_low from to (e ∷ es) h = let first = h.0 in let later = rises_low e.1 to es h.1 in omega (arith, first, later)
-
-rises_front : (from to : ℕ) (es fs : Events) → MomentsRise from (es ++ fs) to → MomentsRise from es to
-rises_front from to [] fs h = rises_low from to fs h
-rises_front from to (e ∷ es) fs h = (h.0, rises_front e.1 to es fs h.1)
-
-rises_below : (low from to : ℕ) (es : Events) → low ≤ from → MomentsRise from es to → MomentsRise low es to
-rises_below low from to [] below h = let up = h in omega (arith, below, up)
-rises_below low from to (e ∷ es) below h = let first = h.0 in (omega (arith, below, first), h.1)
-
--- a core is no later than its last event
-step_by : (core : Core) (e : Event) (at : ℕ) → core.moment ≤ at → (step e at core).moment ≤ at
-step_by core e at low = by core.ended refl
-  where
-    by : (o : Option CoreFault) → core.ended ≡ o → (step e at core).moment ≤ at
-    by None going = let is : (step e at core).moment ≡ at = (step_goes e at core going).moment in omega (arith, is)
-    by (Some fault) h = subst (λ (c : Core). c.moment ≤ at) (sym (step_ended e at core fault h)) low
-
-rises_rest : (core : Core) (from to : ℕ) (es fs : Events) → core.moment ≤ from → MomentsRise from (es ++ fs) to → MomentsRise (steps core es).moment fs to
-rises_rest core from to [] fs low h = rises_below core.moment from to fs low h
-rises_rest core from to (e ∷ es) fs low h =
-    let first = h.0 in
-    rises_rest (step e.0 e.1 core) e.1 to es fs (step_by core e.0 e.1 (omega (arith, low, first))) h.1
 
 -- ---- events that come
 
