@@ -85,8 +85,8 @@ round_long shard entry OfRound effect c is = swept effect.removed ∙ length_set
 
 -- ---- what goes on behind an entry, and entries that take effect one after another
 
-due_by : {P : Core → Type 0} (shard : ℕ) (c : Core) → (is_enter_due shard c ≡ true → P (propose_entry shard (kind.Enter 0 ((catalogue_of shard c).epoch + 1)) c)) → P c → P (propose_due shard c)
-due_by {P = P} shard c enters p = go (is_enter_due shard c) refl
+due_by : (P : Core → Type 0) (shard : ℕ) (c : Core) → (is_enter_due shard c ≡ true → P (propose_entry shard (kind.Enter 0 ((catalogue_of shard c).epoch + 1)) c)) → P c → P (propose_due shard c)
+due_by P shard c enters p = go (is_enter_due shard c) refl
   where
     go : (b : Bool) → is_enter_due shard c ≡ b → P (change_if b (propose_entry shard (kind.Enter 0 ((catalogue_of shard c).epoch + 1))) c)
     go true due = enters due
@@ -123,7 +123,7 @@ module _ {s : Core} {e : Option Event} {Once : Type 0} {P : Core → Type 0} (R 
       go : (b : Bool) → P (change_if b (λ x. resume_where shard is_for_view (set_viewed shard true x)) c)
       go true = by_where shard is_for_view view_idle (set_viewed shard true c) (R.views shard c p)
       go false = p
-  by_class OfRound shard c urged p = due_by {P = P} shard c (λ due. R.enters shard c (urged refl) due p) p
+  by_class OfRound shard c urged p = due_by P shard c (λ due. R.enters shard c (urged refl) due p) p
   by_class OfBase shard c urged p = p
 
   -- an entry takes effect, from what is told of it on
@@ -177,7 +177,7 @@ module _ {s : Core} {e : Option Event} where
   -- ---- a due Enter
 
   due_acts : (shard : ℕ) (c : Core) → IsUrged s e c shard → Acts s e c → Acts s e (propose_due shard c)
-  due_acts shard c urged xs = due_by {P = Acts s e} shard c (λ due. AndThen xs (Enters shard urged due)) xs
+  due_acts shard c urged xs = due_by (Acts s e) shard c (λ due. AndThen xs (Enters shard urged due)) xs
 
   -- ---- a nudge
 

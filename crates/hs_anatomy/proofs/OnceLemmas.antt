@@ -1,5 +1,5 @@
 -- Behind each act no line has two operations where none had before, but for a client's line.
-use Rattle.std.proofs.Common.{◌≡◌, sym, ap, subst, ℕ, List, Option, Some}
+use Rattle.std.proofs.Common.{◌≡◌, sym, ap, subst, ℕ, false, List, Option, Some}
 use Rattle.hs_anatomy.proofs.LookLemmas.{once_map, once_remove, once_set}
 use Rattle.hs_anatomy.proofs.StillLemmas.{kept_still, strokes_keep}
 use Rattle.hs_anatomy.proofs.StrokeLemmas.{strokes_of}

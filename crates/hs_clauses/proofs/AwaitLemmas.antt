@@ -1,11 +1,10 @@
 -- Operations that go on, are begun or answered: those that wait for bytes wait for a block that is there.
-use Rattle.std.proofs.Common.{◌≡◌, ◌∙◌, sym, ap, subst, ◌⊎◌, inl, inr, ℕ, ◌+◌, ◌<◌, Bool, true, false, cond, not, List, [], Option, Some, None, refl, bytes_eq, slice_index, unwrap_or}
+use Rattle.std.proofs.Common.{◌≡◌, ◌∙◌, sym, ap, subst, ◌⊎◌, inl, inr, ℕ, ◌+◌, ◌<◌, Bool, true, false, not, List, [], Option, Some, None, refl, slice_index, unwrap_or}
 use Rattle.std.proofs.Math.Nat.{mod-lt}
 use Rattle.std.proofs.lemmas.Map.Made.{lookup-map_values}
-use Rattle.std.proofs.lemmas.Slice.Eq.{bytes_eq-Decides}
 use Rattle.std.specs.BTreeMap.{is_at}
 use Rattle.std.specs.Map.{lookup}
-use Rattle.std.specs.Option.{option_and_then, option_map, option_map_or}
+use Rattle.std.specs.Option.{option_and_then, option_map}
 use Rattle.std.specs.Ordering.{nat_cmp}
 use Rattle.std.specs.Prelude.{if◌then◌else◌, slice_index_or}
 use Rattle.hs_answered.specs.Standing.{IsFolded}
@@ -18,7 +17,7 @@ use Rattle.hs_core_words.specs.Operating.{add_read, answer, begin_line, busy_lin
 use Rattle.hs_core_words.specs.Pending.{is_coming}
 use Rattle.hs_core_words.specs.Seeing.{pointers_for, view_for}
 use Rattle.hs_core_words.specs.State.{Core}
-use Rattle.hs_effects.proofs.BeginLemmas.{added, busy_by, busy_refused}
+use Rattle.hs_effects.proofs.BeginLemmas.{added, begin_is, seats_apart}
 use Rattle.hs_effects.proofs.LookLemmas.{found_insert, found_set, gone, insert_other, number_exact, once_insert, one_or_other, remove_other, set_other}
 use Rattle.hs_effects.proofs.OrderlyLemmas.{session_in}
 use Rattle.hs_effects.proofs.SeatLemmas.{IsSameFor, seats_other}
@@ -37,11 +36,11 @@ use Rattle.hs_model.specs.declared.op.Op.{Op}
 use Rattle.hs_model.specs.declared.op.Op.TheVariants as op
 use Rattle.hs_model.specs.declared.reply.Reply.{Reply}
 use Rattle.hs_model.specs.Store.{address_cmp}
-use Rattle.hs_ops.specs.Answers.{gained, seated, seats_after}
+use Rattle.hs_ops.specs.Answers.{gained, seats_after}
 use Rattle.hs_ops.specs.declared.step.OpStep.{OpStep}
 use Rattle.hs_ops.specs.declared.step.OpStep.TheVariants.{Answer, Compare, Propose}
 use Rattle.hs_ops.specs.declared.step.OpStep.TheVariants as step
-use Rattle.hs_ops.specs.Going.{begin, go, judged_in}
+use Rattle.hs_ops.specs.Going.{go, judged_in}
 use Rattle.hs_ops.specs.Operations.{Operation, after_step, go_step, new_operation}
 use Rattle.hs_ops.specs.Speaking.{judging_shard, wanted_address}
 use Rattle.hs_ops.specs.Views.{OpView}
@@ -221,9 +220,6 @@ going_awaiting name next c cs line folded order reads its = by (operation_of lin
 
 -- ---- a client's line
 
-name_is : (a b : List ℕ) → Some a ≡ Some b → a ≡ b
-name_is a b e = cc e
-
 module _ (name : List ℕ → Address) (cs : List Folded) (line : ℕ) (o : Op) (c : Core) (folded : IsFolded c cs) (order : IsOrderly name c) (may : IsNewLine name c line o) (its : AreAwaiting c cs) where
   abbrev begun : Core
   begun = record c { progress = record c.progress { last_line = line } }
@@ -256,33 +252,8 @@ module _ (name : List ℕ → Address) (cs : List Folded) (line : ℕ) (o : Op) 
   unfolding seats_after
   begun_answered x r same j = changed_awaiting c (answer line x r with_it) cs line (record {
     others = λ l d. remove_other nat_cmp number_exact with_it.operations line l d ∙ insert_other nat_cmp number_exact c.operations line l w d;
-    seats = seats;
+    seats = seats_apart name line o c order may.new may.counted may.called x r same j;
   }) (λ number y e waits. absurd (some_not y (sym (gone line with_it.operations (once_insert line c.operations w may.new order.once)) ∙ e))) its
-    where
-      gains : List Held
-      gains = gained (view_for x.shard x.operation.op with_it) (pointers_for x.shard x.operation.op with_it) x.operation.op
-
-      seats : (m : ℕ) (u : Waiting) (q : List ℕ) → (m ≡ line → ⊥) → operation_of m c ≡ Some u → session_in u ≡ Some q → seat_of q (answer line x r with_it).sessions ≡ seat_of q c.sessions
-      seats m u q d at s = by_session (session_of (Some o)) refl
-        where
-          other : (session_of (Some o) ≡ Some q → ⊥) → seat_of q (answer line x r with_it).sessions ≡ seat_of q c.sessions
-          other apart = seats_other gains x.operation.op r c.sessions q (λ t. apart (ap (λ p. session_of (Some p)) (sym same) ∙ t))
-
-          mine : session_of (Some o) ≡ Some q → (b : Option ℕ) → busy_line o c ≡ b → seat_of q (answer line x r with_it).sessions ≡ seat_of q c.sessions
-          mine t None e = absurd (busy_by c m u o q at s t e)
-          mine t (Some l) e = ap (λ b. seat_of q (cond b (seated gains x.operation.op c.sessions) c.sessions)) (busy_refused v o q l t ((order.pending m u at).opened q s) e r j)
-
-          by_name : (n : List ℕ) → session_of (Some o) ≡ Some n → (b : Bool) → bytes_eq n q ≡ b → seat_of q (answer line x r with_it).sessions ≡ seat_of q c.sessions
-          by_name n t true e = mine (t ∙ ap (λ k. Some k) ((bytes_eq-Decides n q).0 e)) (busy_line o c) refl
-          by_name n t false e = other (λ f. cc (sym e ∙ (bytes_eq-Decides n q).1 (name_is n q (sym t ∙ f))))
-
-          by_session : (z : Option (List ℕ)) → session_of (Some o) ≡ z → seat_of q (answer line x r with_it).sessions ≡ seat_of q c.sessions
-          by_session None t = other (λ f. cc (sym t ∙ f))
-          by_session (Some n) t = by_name n t (bytes_eq n q) refl
-
-  begin_is : (r : Reply) → judged_in v o ≡ Some r → begin v line o ≡ Answer r
-  unfolding begin
-  begin_is r j = ap (λ (x : Option Reply). option_map_or Answer x (go v line o)) j
 
   with_folded : IsFolded with_it cs
   with_folded = record { valid = folded.valid; shards = folded.shards; own = folded.own; catalogues = folded.catalogues }
@@ -292,7 +263,7 @@ module _ (name : List ℕ → Address) (cs : List Folded) (line : ℕ) (o : Op) 
     where
       by_judge : (x : Option Reply) → judged_in v o ≡ x → AreAwaiting (begin_line line o c) cs
       by_judge (Some r) j =
-          subst (λ taken. AreAwaiting (take_step line w taken with_it) cs) (sym (begin_is r j))
+          subst (λ taken. AreAwaiting (take_step line w taken with_it) cs) (sym (begin_is v line o r j))
           (begun_answered (record w { operation = after_step (Answer r) w.operation }) r refl j)
       by_judge None j =
           stepped name with_it cs with_folded (added name line o c order may.new may.counted may.called j) added_awaiting line w (found_insert line c.operations w)

@@ -1,6 +1,7 @@
 -- A client's line: what it tells is a deed, or nothing.
 use Rattle.std.proofs.Common.{◌≡◌, ◌∙◌, sym, ap, ℕ, List, [], ◌∷◌, Option, Some, None, IsSome, refl}
-use Rattle.std.specs.Option.{option_map, option_map_or}
+use Rattle.std.specs.Option.{option_map}
+use Rattle.hs_standing.proofs.LegalLineLemmas.{apart, some_op}
 use Rattle.hs_answered.proofs.CoreLemmas.{busy_at_its_line}
 use Rattle.hs_answered.specs.Asked.{IsAsked, busy_with, first_step}
 use Rattle.hs_answered.specs.Judged.{IsBusy}
@@ -12,23 +13,20 @@ use Rattle.hs_core_words.specs.Looking.{operation_of, shape_of}
 use Rattle.hs_core_words.specs.Operating.{begin_line, busy_line, take_step}
 use Rattle.hs_core_words.specs.Seeing.{view_for}
 use Rattle.hs_core_words.specs.State.{Core}
-use Rattle.hs_effects.specs.Logged.{AreOnce, IsOrderly}
+use Rattle.hs_effects.specs.Logged.{IsOrderly}
 use Rattle.hs_fold.specs.Runs.Facts.{Catalogue as Folded}
 use Rattle.hs_journal.specs.Order.{session_of}
 use Rattle.hs_standing.proofs.Laws.{Steps}
 use Rattle.hs_standing.proofs.MuteLemmas.{Books, Stays, Words, books_of, step_books, step_stays}
 use Rattle.hs_model.specs.declared.op.Op.{Op}
-use Rattle.hs_model.specs.declared.op.Op.TheVariants as op
 use Rattle.hs_model.specs.declared.reply.Reply.{Reply}
 use Rattle.hs_ops.specs.declared.step.OpStep.{OpStep}
 use Rattle.hs_ops.specs.declared.step.OpStep.TheVariants.{Answer, Compare, Propose, Wait}
-use Rattle.hs_ops.specs.Going.{begin, go, judged_in}
 use Rattle.hs_ops.specs.Operations.{go_step, new_operation}
 use Rattle.hs_ops.specs.Speaking.{judging_shard}
 use Rattle.hs_ops.specs.Views.{OpView}
 use Rattle.hs_tokens.specs.Seats.{Seats, seat_of}
 use Rattle.hs_told.proofs.BusyLemmas.{Busy as IsBusyWith, busy_from}
-use Rattle.hs_told.specs.Apart.{Apart}
 use Rattle.hs_told.specs.Lines.{busy_entry}
 use Rattle.hs_deeds.proofs.OnLemmas.{judged_on, silent_on}
 use Rattle.hs_limits.specs.declared.address.Address.{Address}
@@ -36,39 +34,6 @@ use Rattle.hs_limits.specs.declared.limits.Limits.{Limits}
 use Rattle.hs_model.specs.Deeds.{Busy}
 use Rattle.hs_deeds.specs.On.{AreUnanswered, DeedsOn}
 use Rattle.hs_model.specs.Hollow.{hollow}
-
--- ---- plain facts
-
-apart : (es : List (ℕ × Waiting)) → AreOnce es → Apart es
-apart [] once = tt
-apart (e ∷ es) once = (once.0, apart es once.1)
-
-some_op : (a b : Op) → Some a ≡ Some b → a ≡ b
-some_op a b e = cc e
-
-some_waiting : (a b : Waiting) → Some a ≡ Some b → a ≡ b
-some_waiting a b e = cc e
-
-some_name : (a b : List ℕ) → Some a ≡ Some b → a ≡ b
-some_name a b e = cc e
-
--- one of no session is busy with none
-free_of : (core : Core) (o : Op) → session_of (Some o) ≡ None → busy_line o core ≡ None
-free_of core (op.Open name) s = absurd (cc s)
-free_of core (op.Close name) s = absurd (cc s)
-free_of core (op.Write name payload handles address) s = absurd (cc s)
-free_of core (op.Read name handle) s = absurd (cc s)
-free_of core (op.Look name key) s = absurd (cc s)
-free_of core (op.Root name key handle) s = absurd (cc s)
-free_of core (op.Drop key) s = refl
-free_of core (op.Forget name handle) s = absurd (cc s)
-free_of core (op.Name name handle) s = absurd (cc s)
-free_of core op.Delete s = refl
-free_of core op.Stat s = refl
-
-begin_is : (v : OpView) (line : ℕ) (o : Op) (r : Reply) → judged_in v o ≡ Some r → begin v line o ≡ Answer r
-unfolding begin
-begin_is v line o r j = ap (λ (x : Option Reply). option_map_or Answer x (go v line o)) j
 
 module _ (name : List ℕ → Address) (limits : Limits) (cs : List Folded) (core : Core) (order : IsOrderly name core) (line : ℕ) (o : Op) (asked : IsAsked (store_with cs core.sessions) o) where
   abbrev begun : Core

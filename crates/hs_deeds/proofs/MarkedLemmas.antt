@@ -1,9 +1,8 @@
 -- Each single change of a core leaves each Mark that waits the pointers that its line writes, whatever bytes are told.
-use Rattle.std.proofs.Common.{◌≡◌, ◌∙◌, sym, ap, subst, ◌⊎◌, inl, inr, ℕ, suc, ◌+◌, ◌<◌, ◌≤◌, ◌==◌, Bool, true, false, cond, length, List, [], ◌∷◌, ◌++◌, Option, Some, None, refl, arith, is_some, slice_get, bytes_eq}
+use Rattle.std.proofs.Common.{◌≡◌, ◌∙◌, sym, ap, subst, ◌⊎◌, inl, inr, ℕ, suc, ◌+◌, ◌<◌, ◌≤◌, ◌==◌, true, false, cond, length, List, [], ◌∷◌, ◌++◌, Option, Some, None, refl, arith, is_some, slice_get, bytes_eq}
 use Rattle.std.proofs.lemmas.Bool.{and_parts}
 use Rattle.std.proofs.lemmas.Bool.Decides.{nat_tests}
 use Rattle.std.proofs.lemmas.Map.Made.{lookup-map_values}
-use Rattle.std.proofs.lemmas.Slice.Eq.{bytes_eq-Decides}
 use Rattle.std.specs.BTreeMap.{is_at}
 use Rattle.std.specs.Cmp.Lexicographic.{pointwise}
 use Rattle.std.specs.Map.{lookup}
@@ -16,7 +15,7 @@ use Rattle.hs_answered.specs.Standing.{IsFolded}
 use Rattle.hs_awaiting.specs.declared.wait.Wait.{Wait}
 use Rattle.hs_awaiting.specs.declared.wait.Wait.TheVariants as wait
 use Rattle.hs_awaiting.specs.declared.waiting.Waiting.{Waiting}
-use Rattle.hs_awaiting.specs.Words.{change_if, change_with}
+use Rattle.hs_awaiting.specs.Words.{change_with}
 use Rattle.hs_core_words.specs.Asking.{send_round}
 use Rattle.hs_core_words.specs.Changing.{add_entry_tasks, add_operation, change_group, change_pool, note, post, put_operation, refuse, set_viewed}
 use Rattle.hs_core_words.specs.Effects.{note_enter, note_sweep, round_messages, tell_enter, tell_operation}
@@ -29,16 +28,15 @@ use Rattle.hs_core_words.specs.Views.{begin_view, restart}
 use Rattle.hs_deeds.specs.Points.{ArePointed, MarksPoint, PointsAt}
 use Rattle.hs_deeds.proofs.GrantedLemmas.{same_pointers}
 use Rattle.hs_desk.specs.declared.what.What.{What}
-use Rattle.hs_desk.specs.declared.what.What.TheVariants as what
 use Rattle.hs_effects.specs.Logged.{IsNewLine, IsOrderly, asked_by}
 use Rattle.hs_effects.specs.Taking.{IsNamed, done_by, folds_behind, next_deed, setting_of, taken}
-use Rattle.hs_effects.proofs.BeginLemmas.{added, busy_by, busy_refused}
+use Rattle.hs_effects.proofs.BeginLemmas.{added, begin_is, seats_apart}
 use Rattle.hs_effects.proofs.EffectLemmas.{committed_named, taken_free}
 use Rattle.hs_effects.proofs.FoldLemmas.{low_here, memory_at, own_here, taken_folds}
 use Rattle.hs_effects.proofs.GoingLemmas.{IsIdle, idle_free}
 use Rattle.hs_effects.proofs.GroupLemmas.{IsFirst, at_end, at_front, committed_first, group_changed}
 use Rattle.hs_effects.proofs.LookLemmas.{found_insert, found_set, insert_other, number_exact, one_or_other, remove_other, set_other}
-use Rattle.hs_effects.proofs.OrderlyLemmas.{IsFree, session_in, some_is}
+use Rattle.hs_effects.proofs.OrderlyLemmas.{IsFree, some_is}
 use Rattle.hs_effects.proofs.QuietLemmas.{Quiet, going_quiet, proposed_quiet}
 use Rattle.hs_effects.proofs.SeatLemmas.{IsSameFor, block_same, seats_other}
 use Rattle.hs_effects.proofs.ViewLemmas.{at_cut}
@@ -56,11 +54,10 @@ use Rattle.hs_standing.proofs.AgainLemmas.{Was, was}
 use Rattle.hs_standing.proofs.LegalLineLemmas.{begun_quiet}
 use Rattle.hs_standing.proofs.MuteLemmas.{at_once_quiet}
 use Rattle.hs_standing.proofs.AnswerLemmas.{HasCompared, ProposesNoMark, bytes_mark, effect_no_mark, from_no_mark, mark_line}
-use Rattle.hs_standing.proofs.WrittenLemmas.{AlikeHere, AreApart, ChangesHere}
+use Rattle.hs_standing.proofs.WrittenLemmas.{AlikeHere, AreApart, ChangesHere, enter_alike, swept_alike}
 use Rattle.hs_journal.specs.declared.entry.Who.TheVariants as who
 use Rattle.hs_journal.specs.Order.{session_of}
 use Rattle.hs_limits.specs.Block.{Block, spell}
-use Rattle.hs_limits.specs.declared.address.Held.{Held}
 use Rattle.hs_limits.specs.declared.limits.Limits.{Limits}
 use Rattle.hs_limits.specs.declared.shape.Shape.{Shape}
 use Rattle.hs_members.specs.Members.{view_of}
@@ -74,10 +71,10 @@ use Rattle.hs_model.specs.declared.reply.Reply.{Reply}
 use Rattle.hs_model.specs.declared.reply.Reply.TheVariants as reply
 use Rattle.hs_model.specs.declared.store.StoredBlock.{StoredBlock}
 use Rattle.hs_model.specs.Store.{address_cmp}
-use Rattle.hs_ops.specs.Answers.{gained, seated, seats_after}
+use Rattle.hs_ops.specs.Answers.{gained, seats_after}
 use Rattle.hs_ops.specs.declared.step.OpStep.{OpStep}
 use Rattle.hs_ops.specs.declared.step.OpStep.TheVariants as step
-use Rattle.hs_ops.specs.Going.{begin, go, is_same_block, judged_in, on_bytes}
+use Rattle.hs_ops.specs.Going.{go, is_same_block, judged_in, on_bytes}
 use Rattle.hs_ops.specs.Operations.{Operation, after_step, bytes_step, effect_step, go_step, new_operation, wanted_number}
 use Rattle.hs_ops.specs.Speaking.{asked_block, asked_pointers, judging_shard}
 use Rattle.hs_ops.specs.Views.{OpView}
@@ -317,28 +314,6 @@ module _ (name : List ℕ → Address) (cs : List Folded) (shard number : ℕ) (
 
 -- ---- what is told of it
 
-sweep_alike : (shard removed : ℕ) (c : Core) → AlikeHere c (note_sweep shard removed c)
-sweep_alike shard removed c = go _
-  where
-    go : (b : Bool) → AlikeHere c (change_if b (note who.Store deed.Nothing (reply.Done (catalogue_of shard c).swept)) (note (who.Shard shard) (deed.Swept shard) (reply.Sweep (catalogue_of shard c).swept removed) c))
-    go true = record { operations = refl; sessions = refl; waiting = λ g. refl }
-    go false = record { operations = refl; sessions = refl; waiting = λ g. refl }
-
-swept_alike : (shard : ℕ) (removed : Option ℕ) (c : Core) → AlikeHere c (change_with removed (note_sweep shard) c)
-swept_alike shard None c = record { operations = refl; sessions = refl; waiting = λ g. refl }
-swept_alike shard (Some n) c = sweep_alike shard n c
-
-enter_alike : (shard : ℕ) (did : What) (c : Core) → AlikeHere c (note_enter shard did c)
-enter_alike shard what.Nothing c = record { operations = refl; sessions = refl; waiting = λ g. refl }
-enter_alike shard (what.Viewed view) c = record { operations = refl; sessions = refl; waiting = λ g. refl }
-enter_alike shard what.Stored c = record { operations = refl; sessions = refl; waiting = λ g. refl }
-enter_alike shard what.Marked c = record { operations = refl; sessions = refl; waiting = λ g. refl }
-enter_alike shard what.Again c = record { operations = refl; sessions = refl; waiting = λ g. refl }
-enter_alike shard what.Rooted c = record { operations = refl; sessions = refl; waiting = λ g. refl }
-enter_alike shard what.Dropped c = record { operations = refl; sessions = refl; waiting = λ g. refl }
-enter_alike shard (what.Entered epoch) c = record { operations = refl; sessions = refl; waiting = λ g. refl }
-enter_alike shard what.Refused c = record { operations = refl; sessions = refl; waiting = λ g. refl }
-
 module _ (shard : ℕ) (c : Core) (ks : ℕ → Catalogue) (apart : AreApart c) (counted : (line : ℕ) (w : Waiting) → operation_of line c ≡ Some w → 1 ≤ line) (its : ArePointed c ks) where
   heard_pointed : (line : ℕ) (did : What) → IsFree c line → ArePointed (tell_operation line did c) ks
   heard_pointed line did free = going_pointed (λ v o. effect_step v did o) c ks line free apart
@@ -458,9 +433,6 @@ pointed_again ks c its back shard = alike_pointed c (send_round back shard c) ks
 
 -- ---- a client's line
 
-name_is : (a b : List ℕ) → Some a ≡ Some b → a ≡ b
-name_is a b e = cc e
-
 module _ (name : List ℕ → Address) (ks : ℕ → Catalogue) (line : ℕ) (o : Op) (c : Core) (order : IsOrderly name c) (may : IsNewLine name c line o) (its : ArePointed c ks) where
   abbrev begun : Core
   begun = record c { progress = record c.progress { last_line = line } }
@@ -491,40 +463,15 @@ module _ (name : List ℕ → Address) (ks : ℕ → Catalogue) (line : ℕ) (o 
   told_pointed x r same j = changed_pointed c (answer line x r with_it) ks line free (record {
     waiting = λ g. refl;
     others = λ l d. remove_other nat_cmp number_exact with_it.operations line l d ∙ insert_other nat_cmp number_exact c.operations line l w d;
-    seats = seats;
+    seats = seats_apart name line o c order may.new may.counted may.called x r same j;
   }) its
-    where
-      gains : List Held
-      gains = gained (view_for x.shard x.operation.op with_it) (pointers_for x.shard x.operation.op with_it) x.operation.op
-
-      seats : (m : ℕ) (u : Waiting) (q : List ℕ) → (m ≡ line → ⊥) → operation_of m c ≡ Some u → session_in u ≡ Some q → seat_of q (answer line x r with_it).sessions ≡ seat_of q c.sessions
-      seats m u q d at s = by_session (session_of (Some o)) refl
-        where
-          other : (session_of (Some o) ≡ Some q → ⊥) → seat_of q (answer line x r with_it).sessions ≡ seat_of q c.sessions
-          other apart = seats_other gains x.operation.op r c.sessions q (λ t. apart (ap (λ p. session_of (Some p)) (sym same) ∙ t))
-
-          mine : session_of (Some o) ≡ Some q → (b : Option ℕ) → busy_line o c ≡ b → seat_of q (answer line x r with_it).sessions ≡ seat_of q c.sessions
-          mine t None e = absurd (busy_by c m u o q at s t e)
-          mine t (Some l) e = ap (λ b. seat_of q (cond b (seated gains x.operation.op c.sessions) c.sessions)) (busy_refused v o q l t ((order.pending m u at).opened q s) e r j)
-
-          by_name : (n : List ℕ) → session_of (Some o) ≡ Some n → (b : Bool) → bytes_eq n q ≡ b → seat_of q (answer line x r with_it).sessions ≡ seat_of q c.sessions
-          by_name n t true e = mine (t ∙ ap (λ k. Some k) ((bytes_eq-Decides n q).0 e)) (busy_line o c) refl
-          by_name n t false e = other (λ f. cc (sym e ∙ (bytes_eq-Decides n q).1 (name_is n q (sym t ∙ f))))
-
-          by_session : (z : Option (List ℕ)) → session_of (Some o) ≡ z → seat_of q (answer line x r with_it).sessions ≡ seat_of q c.sessions
-          by_session None t = other (λ f. cc (sym t ∙ f))
-          by_session (Some n) t = by_name n t (bytes_eq n q) refl
-
-  begin_is : (r : Reply) → judged_in v o ≡ Some r → begin v line o ≡ step.Answer r
-  unfolding begin
-  begin_is r j = ap (λ (x : Option Reply). option_map_or step.Answer x (go v line o)) j
 
   pub line_pointed : ArePointed (begin_line line o c) ks
   line_pointed = by_judge (judged_in v o) refl
     where
       by_judge : (x : Option Reply) → judged_in v o ≡ x → ArePointed (begin_line line o c) ks
       by_judge (Some r) j =
-          subst (λ taken. ArePointed (take_step line w taken with_it) ks) (sym (begin_is r j))
+          subst (λ taken. ArePointed (take_step line w taken with_it) ks) (sym (begin_is v line o r j))
           (told_pointed (record w { operation = after_step (step.Answer r) w.operation }) r refl j)
       by_judge None j =
           stepped_pointed with_it ks line (λ g place e at by. free g place e at by) (added name line o c order may.new may.counted may.called j).alone added_pointed w (found_insert line c.operations w)

@@ -186,6 +186,10 @@ busy_by c m w o q at s t none = clash (find (λ (e : ℕ × Waiting). is_of q e.
 
 -- ---- the line
 
+pub begin_is : (v : OpView) (line : ℕ) (o : Op) (r : Reply) → judged_in v o ≡ Some r → begin v line o ≡ step.Answer r
+unfolding begin
+begin_is v line o r j = ap (λ (x : Option Reply). option_map_or step.Answer x (go v line o)) j
+
 module _ (name : List ℕ → Address) (line : ℕ) (o : Op) (c : Core) (its : IsOrderly name c) (new : operation_of line c ≡ None) (counted : 1 ≤ line) (called : IsCalled name c.sessions o) where
   abbrev begun : Core
   begun = record c { progress = record c.progress { last_line = line } }
@@ -208,6 +212,30 @@ module _ (name : List ℕ → Address) (line : ℕ) (o : Op) (c : Core) (its : I
   added_once : AreOnce with_it.operations
   added_once = once_insert line c.operations w new its.once
 
+  -- it is answered at its line: no other line has an operation of its session, or it is told that this is busy
+  pub seats_apart : (x : Waiting) (r : Reply) → x.operation.op ≡ o → judged_in v o ≡ Some r → (m : ℕ) (u : Waiting) (q : List ℕ) → (m ≡ line → ⊥) → operation_of m c ≡ Some u → session_in u ≡ Some q
+      → seat_of q (answer line x r with_it).sessions ≡ seat_of q c.sessions
+  unfolding seats_after
+  seats_apart x r same j m u q d at s = by_session (session_of (Some o)) refl
+    where
+      gains : List Held
+      gains = gained (view_for x.shard x.operation.op with_it) (pointers_for x.shard x.operation.op with_it) x.operation.op
+
+      other : (session_of (Some o) ≡ Some q → ⊥) → seat_of q (answer line x r with_it).sessions ≡ seat_of q c.sessions
+      other apart = seats_other gains x.operation.op r c.sessions q (λ t. apart (ap (λ p. session_of (Some p)) (sym same) ∙ t))
+
+      mine : session_of (Some o) ≡ Some q → (b : Option ℕ) → busy_line o c ≡ b → seat_of q (answer line x r with_it).sessions ≡ seat_of q c.sessions
+      mine t None e = absurd (busy_by c m u o q at s t e)
+      mine t (Some l) e = ap (λ b. seat_of q (cond b (seated gains x.operation.op c.sessions) c.sessions)) (busy_refused v o q l t ((its.pending m u at).opened q s) e r j)
+
+      by_name : (n : List ℕ) → session_of (Some o) ≡ Some n → (b : Bool) → bytes_eq n q ≡ b → seat_of q (answer line x r with_it).sessions ≡ seat_of q c.sessions
+      by_name n t true e = mine (t ∙ ap (λ k. Some k) ((bytes_eq-Decides n q).0 e)) (busy_line o c) refl
+      by_name n t false e = other (λ f. cc (sym e ∙ (bytes_eq-Decides n q).1 (name_is n q (sym t ∙ f))))
+
+      by_session : (z : Option (List ℕ)) → session_of (Some o) ≡ z → seat_of q (answer line x r with_it).sessions ≡ seat_of q c.sessions
+      by_session None t = other (λ f. cc (sym t ∙ f))
+      by_session (Some n) t = by_name n t (bytes_eq n q) refl
+
   answered : (x : Waiting) (r : Reply) → x.operation.op ≡ o → judged_in v o ≡ Some r → IsOrderly name (answer line x r with_it)
   unfolding seats_after
   answered x r same j = changed_orderly name c (answer line x r with_it) line its free (record {
@@ -220,32 +248,11 @@ module _ (name : List ℕ → Address) (line : ℕ) (o : Op) (c : Core) (its : I
     once = once_remove line with_it.operations added_once;
     here = λ y e. absurd (none y e);
     apart = λ m u y q d e f s t. none y f;
-    seats = seats;
+    seats = seats_apart x r same j;
   })
     where
       none : (y : Waiting) → operation_of line (answer line x r with_it) ≡ Some y → ⊥
       none y e = cc (sym (gone line with_it.operations added_once) ∙ e)
-
-      gains : List Held
-      gains = gained (view_for x.shard x.operation.op with_it) (pointers_for x.shard x.operation.op with_it) x.operation.op
-
-      seats : (m : ℕ) (u : Waiting) (q : List ℕ) → (m ≡ line → ⊥) → operation_of m c ≡ Some u → session_in u ≡ Some q → seat_of q (answer line x r with_it).sessions ≡ seat_of q c.sessions
-      seats m u q d at s = by_session (session_of (Some o)) refl
-        where
-          other : (session_of (Some o) ≡ Some q → ⊥) → seat_of q (answer line x r with_it).sessions ≡ seat_of q c.sessions
-          other apart = seats_other gains x.operation.op r c.sessions q (λ t. apart (ap (λ p. session_of (Some p)) (sym same) ∙ t))
-
-          mine : session_of (Some o) ≡ Some q → (b : Option ℕ) → busy_line o c ≡ b → seat_of q (answer line x r with_it).sessions ≡ seat_of q c.sessions
-          mine t None e = absurd (busy_by c m u o q at s t e)
-          mine t (Some l) e = ap (λ b. seat_of q (cond b (seated gains x.operation.op c.sessions) c.sessions)) (busy_refused v o q l t ((its.pending m u at).opened q s) e r j)
-
-          by_name : (n : List ℕ) → session_of (Some o) ≡ Some n → (b : Bool) → bytes_eq n q ≡ b → seat_of q (answer line x r with_it).sessions ≡ seat_of q c.sessions
-          by_name n t true e = mine (t ∙ ap (λ k. Some k) ((bytes_eq-Decides n q).0 e)) (busy_line o c) refl
-          by_name n t false e = other (λ f. cc (sym e ∙ (bytes_eq-Decides n q).1 (name_is n q (sym t ∙ f))))
-
-          by_session : (z : Option (List ℕ)) → session_of (Some o) ≡ z → seat_of q (answer line x r with_it).sessions ≡ seat_of q c.sessions
-          by_session None t = other (λ f. cc (sym t ∙ f))
-          by_session (Some n) t = by_name n t (bytes_eq n q) refl
 
   pub added : judged_in v o ≡ None → IsOrderly name with_it
   added j = changed_orderly name c with_it line its free (record {
@@ -270,10 +277,6 @@ module _ (name : List ℕ → Address) (line : ℕ) (o : Op) (c : Core) (its : I
       by_mine : (m : ℕ) (u : Waiting) (q : List ℕ) → operation_of m c ≡ Some u → session_in u ≡ Some q → session_of (Some o) ≡ Some q → ⊥
       by_mine m u q at s t = busy_by c m u o q at s t ((unanswered_alone v o q j t).free)
 
-  begin_is : (r : Reply) → judged_in v o ≡ Some r → begin v line o ≡ step.Answer r
-  unfolding begin
-  begin_is r j = ap (λ (x : Option Reply). option_map_or step.Answer x (go v line o)) j
-
   soon : (entry : Entry) → IsEntryOf name c.sessions line o entry × IsOwn c.limits c.sessions o × Passes v entry → IsEntryOf name c.sessions line o entry × IsOwn c.limits c.sessions o × HasPlace with_it shard entry
   soon entry is =
       let p : HasPlace begun shard entry = placed name c.sessions line begun shard o entry is.0 is.2 in
@@ -284,7 +287,7 @@ module _ (name : List ℕ → Address) (line : ℕ) (o : Op) (c : Core) (its : I
     where
       by_judge : (x : Option Reply) → judged_in v o ≡ x → IsOrderly name (begin_line line o c)
       by_judge (Some r) j =
-          subst (λ taken. IsOrderly name (take_step line w taken with_it)) (sym (begin_is r j))
+          subst (λ taken. IsOrderly name (take_step line w taken with_it)) (sym (begin_is v line o r j))
           (answered (record w { operation = after_step (step.Answer r) w.operation }) r refl j)
       by_judge None j =
           stepped name with_it line (added j) (λ g place e at by. free g place e at by) w (found_insert line c.operations w) (go_step v w.operation)

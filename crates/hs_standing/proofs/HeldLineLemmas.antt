@@ -1,39 +1,30 @@
 -- A client's line leaves each Mark that waits the block that its line writes.
-use Rattle.std.proofs.Common.{◌≡◌, ◌∙◌, sym, ap, subst, ℕ, Bool, true, false, cond, List, Option, Some, None, refl, bytes_eq}
-use Rattle.std.proofs.lemmas.Slice.Eq.{bytes_eq-Decides}
-use Rattle.std.specs.Option.{option_map_or}
+use Rattle.std.proofs.Common.{◌≡◌, ◌∙◌, sym, subst, ℕ, List, Option, Some, None, refl}
 use Rattle.std.specs.Ordering.{nat_cmp}
 use Rattle.hs_awaiting.specs.declared.wait.Wait.TheVariants as wait
 use Rattle.hs_awaiting.specs.declared.waiting.Waiting.{Waiting}
 use Rattle.hs_core_words.specs.Changing.{add_operation}
-use Rattle.hs_core_words.specs.Looking.{operation_of, shape_of}
+use Rattle.hs_core_words.specs.Looking.{shape_of}
 use Rattle.hs_core_words.specs.Operating.{answer, begin_line, busy_line, take_step}
-use Rattle.hs_core_words.specs.Seeing.{pointers_for, view_for}
+use Rattle.hs_core_words.specs.Seeing.{view_for}
 use Rattle.hs_core_words.specs.State.{Core}
 use Rattle.hs_effects.specs.Logged.{IsNewLine, IsOrderly}
-use Rattle.hs_effects.proofs.BeginLemmas.{added, busy_by, busy_refused}
+use Rattle.hs_effects.proofs.BeginLemmas.{added, begin_is, seats_apart}
 use Rattle.hs_effects.proofs.LookLemmas.{found_insert, insert_other, number_exact, remove_other}
-use Rattle.hs_effects.proofs.OrderlyLemmas.{IsFree, session_in}
-use Rattle.hs_effects.proofs.SeatLemmas.{seats_other}
+use Rattle.hs_effects.proofs.OrderlyLemmas.{IsFree}
 use Rattle.hs_fold.specs.Runs.Facts.{Catalogue as Folded}
 use Rattle.hs_standing.specs.Held.{AreWritten}
 use Rattle.hs_standing.proofs.AnswerLemmas.{from_no_mark}
 use Rattle.hs_standing.proofs.WrittenLemmas.{changed_written, no_mark_well, stepped_written}
-use Rattle.hs_journal.specs.Order.{session_of}
 use Rattle.hs_limits.specs.declared.address.Address.{Address}
-use Rattle.hs_limits.specs.declared.address.Held.{Held}
 use Rattle.hs_model.specs.declared.op.Op.{Op}
 use Rattle.hs_model.specs.declared.reply.Reply.{Reply}
-use Rattle.hs_ops.specs.Answers.{gained, seated, seats_after}
+use Rattle.hs_ops.specs.Answers.{seats_after}
 use Rattle.hs_ops.specs.declared.step.OpStep.TheVariants as step
-use Rattle.hs_ops.specs.Going.{begin, go, judged_in}
+use Rattle.hs_ops.specs.Going.{judged_in}
 use Rattle.hs_ops.specs.Operations.{after_step, go_step, new_operation}
 use Rattle.hs_ops.specs.Speaking.{judging_shard}
 use Rattle.hs_ops.specs.Views.{OpView}
-use Rattle.hs_tokens.specs.Seats.{seat_of}
-
-name_is : (a b : List ℕ) → Some a ≡ Some b → a ≡ b
-name_is a b e = cc e
 
 module _ (name : List ℕ → Address) (cs : List Folded) (line : ℕ) (o : Op) (c : Core) (order : IsOrderly name c) (may : IsNewLine name c line o) (its : AreWritten c cs) where
   abbrev begun : Core
@@ -65,40 +56,15 @@ module _ (name : List ℕ → Address) (cs : List Folded) (line : ℕ) (o : Op) 
   answered_written x r same j = changed_written c (answer line x r with_it) cs line free (record {
     waiting = λ g. refl;
     others = λ l d. remove_other nat_cmp number_exact with_it.operations line l d ∙ insert_other nat_cmp number_exact c.operations line l w d;
-    seats = seats;
+    seats = seats_apart name line o c order may.new may.counted may.called x r same j;
   }) its
-    where
-      gains : List Held
-      gains = gained (view_for x.shard x.operation.op with_it) (pointers_for x.shard x.operation.op with_it) x.operation.op
-
-      seats : (m : ℕ) (u : Waiting) (q : List ℕ) → (m ≡ line → ⊥) → operation_of m c ≡ Some u → session_in u ≡ Some q → seat_of q (answer line x r with_it).sessions ≡ seat_of q c.sessions
-      seats m u q d at s = by_session (session_of (Some o)) refl
-        where
-          other : (session_of (Some o) ≡ Some q → ⊥) → seat_of q (answer line x r with_it).sessions ≡ seat_of q c.sessions
-          other apart = seats_other gains x.operation.op r c.sessions q (λ t. apart (ap (λ p. session_of (Some p)) (sym same) ∙ t))
-
-          mine : session_of (Some o) ≡ Some q → (b : Option ℕ) → busy_line o c ≡ b → seat_of q (answer line x r with_it).sessions ≡ seat_of q c.sessions
-          mine t None e = absurd (busy_by c m u o q at s t e)
-          mine t (Some l) e = ap (λ b. seat_of q (cond b (seated gains x.operation.op c.sessions) c.sessions)) (busy_refused v o q l t ((order.pending m u at).opened q s) e r j)
-
-          by_name : (n : List ℕ) → session_of (Some o) ≡ Some n → (b : Bool) → bytes_eq n q ≡ b → seat_of q (answer line x r with_it).sessions ≡ seat_of q c.sessions
-          by_name n t true e = mine (t ∙ ap (λ k. Some k) ((bytes_eq-Decides n q).0 e)) (busy_line o c) refl
-          by_name n t false e = other (λ f. cc (sym e ∙ (bytes_eq-Decides n q).1 (name_is n q (sym t ∙ f))))
-
-          by_session : (z : Option (List ℕ)) → session_of (Some o) ≡ z → seat_of q (answer line x r with_it).sessions ≡ seat_of q c.sessions
-          by_session None t = other (λ f. cc (sym t ∙ f))
-          by_session (Some n) t = by_name n t (bytes_eq n q) refl
-
-  begin_is : (r : Reply) → judged_in v o ≡ Some r → begin v line o ≡ step.Answer r
-  unfolding begin
-  begin_is r j = ap (λ (x : Option Reply). option_map_or step.Answer x (go v line o)) j
 
   pub line_written : AreWritten (begin_line line o c) cs
   line_written = by_judge (judged_in v o) refl
     where
       by_judge : (x : Option Reply) → judged_in v o ≡ x → AreWritten (begin_line line o c) cs
       by_judge (Some r) j =
-          subst (λ taken. AreWritten (take_step line w taken with_it) cs) (sym (begin_is r j))
+          subst (λ taken. AreWritten (take_step line w taken with_it) cs) (sym (begin_is v line o r j))
           (answered_written (record w { operation = after_step (step.Answer r) w.operation }) r refl j)
       by_judge None j =
           stepped_written with_it cs line (λ g place e at by. free g place e at by) (added name line o c order may.new may.counted may.called j).alone added_written w (found_insert line c.operations w)

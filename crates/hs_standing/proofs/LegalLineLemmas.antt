@@ -1,7 +1,7 @@
 -- A client's line: it tells what the judge says, that its session is busy, or nothing, and an operation that waits is its command's.
 use Rattle.std.proofs.Common.{◌≡◌, ◌∙◌, sym, ap, subst, ◌⊎◌, inl, inr, ℕ, Bool, true, false, cond, List, [], ◌∷◌, Option, Some, None, IsSome, refl, bytes_eq}
 use Rattle.std.proofs.lemmas.Slice.Eq.{bytes_eq-Decides}
-use Rattle.std.specs.Option.{option_map, option_map_or}
+use Rattle.std.specs.Option.{option_map}
 use Rattle.std.specs.Ordering.{nat_cmp}
 use Rattle.hs_answered.proofs.CoreLemmas.{busy_at_its_line}
 use Rattle.hs_answered.proofs.EarlyLemmas.{IsEarly, addressed_or_early}
@@ -17,7 +17,7 @@ use Rattle.hs_core_words.specs.Looking.{operation_of, shape_of}
 use Rattle.hs_core_words.specs.Operating.{begin_line, busy_line, take_step}
 use Rattle.hs_core_words.specs.Seeing.{pointers_for, view_for}
 use Rattle.hs_core_words.specs.State.{Core}
-use Rattle.hs_effects.proofs.BeginLemmas.{added, busy_by, busy_refused, unanswered_alone}
+use Rattle.hs_effects.proofs.BeginLemmas.{added, begin_is, busy_by, busy_refused, unanswered_alone}
 use Rattle.hs_effects.proofs.LookLemmas.{found_insert, gone, insert_other, number_exact, once_insert, one_or_other, remove_other}
 use Rattle.hs_effects.proofs.OrderlyLemmas.{session_in}
 use Rattle.hs_effects.proofs.QuietLemmas.{Quiet, both, carried_quiet}
@@ -41,7 +41,7 @@ use Rattle.hs_model.specs.Store.{Store}
 use Rattle.hs_ops.specs.Answers.{gained, seated, seats_after}
 use Rattle.hs_ops.specs.declared.step.OpStep.{OpStep}
 use Rattle.hs_ops.specs.declared.step.OpStep.TheVariants.{Answer, Compare, Propose, Wait}
-use Rattle.hs_ops.specs.Going.{begin, go, judged_in}
+use Rattle.hs_ops.specs.Going.{judged_in}
 use Rattle.hs_ops.specs.Operations.{after_step, go_step, new_operation}
 use Rattle.hs_ops.specs.Speaking.{judging_shard}
 use Rattle.hs_ops.specs.Views.{OpView}
@@ -53,21 +53,21 @@ use Rattle.hs_told.specs.Lines.{busy_entry}
 
 -- ---- plain facts
 
-apart : (es : List (ℕ × Waiting)) → AreOnce es → Apart es
+pub apart : (es : List (ℕ × Waiting)) → AreOnce es → Apart es
 apart [] once = tt
 apart (e ∷ es) once = (once.0, apart es once.1)
 
-some_op : (a b : Op) → Some a ≡ Some b → a ≡ b
+pub some_op : (a b : Op) → Some a ≡ Some b → a ≡ b
 some_op a b e = cc e
 
-some_waiting : (a b : Waiting) → Some a ≡ Some b → a ≡ b
+pub some_waiting : (a b : Waiting) → Some a ≡ Some b → a ≡ b
 some_waiting a b e = cc e
 
-some_name : (a b : List ℕ) → Some a ≡ Some b → a ≡ b
+pub some_name : (a b : List ℕ) → Some a ≡ Some b → a ≡ b
 some_name a b e = cc e
 
 -- one of no session is busy with none
-free_of : (core : Core) (o : Op) → session_of (Some o) ≡ None → busy_line o core ≡ None
+pub free_of : (core : Core) (o : Op) → session_of (Some o) ≡ None → busy_line o core ≡ None
 free_of core (op.Open name) s = absurd (cc s)
 free_of core (op.Close name) s = absurd (cc s)
 free_of core (op.Write name payload handles address) s = absurd (cc s)
@@ -79,10 +79,6 @@ free_of core (op.Forget name handle) s = absurd (cc s)
 free_of core (op.Name name handle) s = absurd (cc s)
 free_of core op.Delete s = refl
 free_of core op.Stat s = refl
-
-begin_is : (v : OpView) (line : ℕ) (o : Op) (r : Reply) → judged_in v o ≡ Some r → begin v line o ≡ Answer r
-unfolding begin
-begin_is v line o r j = ap (λ (x : Option Reply). option_map_or Answer x (go v line o)) j
 
 module _ (by : Judging) (cs : List Folded) (core : Core) (order : IsOrderly by.name core) (commands : AreCommanded by core) (line : ℕ) (o : Op) (its : IsLineOf by core line o) where
   abbrev begun : Core

@@ -279,20 +279,13 @@ sweep_alike shard removed c = go _
     go true = record { operations = refl; sessions = refl; waiting = λ g. refl }
     go false = record { operations = refl; sessions = refl; waiting = λ g. refl }
 
-swept_alike : (shard : ℕ) (removed : Option ℕ) (c : Core) → AlikeHere c (change_with removed (note_sweep shard) c)
+pub swept_alike : (shard : ℕ) (removed : Option ℕ) (c : Core) → AlikeHere c (change_with removed (note_sweep shard) c)
 swept_alike shard None c = record { operations = refl; sessions = refl; waiting = λ g. refl }
 swept_alike shard (Some n) c = sweep_alike shard n c
 
-enter_alike : (shard : ℕ) (did : What) (c : Core) → AlikeHere c (note_enter shard did c)
-enter_alike shard what.Nothing c = record { operations = refl; sessions = refl; waiting = λ g. refl }
-enter_alike shard (what.Viewed view) c = record { operations = refl; sessions = refl; waiting = λ g. refl }
-enter_alike shard what.Stored c = record { operations = refl; sessions = refl; waiting = λ g. refl }
-enter_alike shard what.Marked c = record { operations = refl; sessions = refl; waiting = λ g. refl }
-enter_alike shard what.Again c = record { operations = refl; sessions = refl; waiting = λ g. refl }
-enter_alike shard what.Rooted c = record { operations = refl; sessions = refl; waiting = λ g. refl }
-enter_alike shard what.Dropped c = record { operations = refl; sessions = refl; waiting = λ g. refl }
+pub enter_alike : (shard : ℕ) (did : What) (c : Core) → AlikeHere c (note_enter shard did c)
 enter_alike shard (what.Entered epoch) c = record { operations = refl; sessions = refl; waiting = λ g. refl }
-enter_alike shard what.Refused c = record { operations = refl; sessions = refl; waiting = λ g. refl }
+enter_alike shard other c = record { operations = refl; sessions = refl; waiting = λ g. refl }
 
 module _ (shard : ℕ) (c : Core) (cs : List Folded) (apart : AreApart c) (counted : (line : ℕ) (w : Waiting) → operation_of line c ≡ Some w → 1 ≤ line) (its : AreWritten c cs) where
   heard_written : (line : ℕ) (did : What) → IsFree c line → AreWritten (tell_operation line did c) cs
