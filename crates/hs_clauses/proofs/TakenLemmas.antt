@@ -1,5 +1,5 @@
 -- Of one copy each, the log of a shard is that of its peer, where that has one.
-use Rattle.std.proofs.Common.{◌≡◌, ◌∙◌, ap, sym, ℕ, ◌+◌, ◌*◌, ◌/◌, ◌<◌, ◌==◌, ◌&&◌, ◌||◌, not, Bool, true, false, List, [], ◌∷◌, Option, Some, None, refl, length, is_some, arith, nat_lt, if◌then◌else◌}
+use Rattle.std.proofs.Common.{◌≡◌, ◌∙◌, ap, ℕ, ◌+◌, ◌*◌, ◌/◌, ◌<◌, ◌==◌, ◌&&◌, ◌||◌, not, Bool, true, false, List, [], ◌∷◌, Option, Some, None, refl, length, is_some, arith, nat_lt, if◌then◌else◌}
 use Rattle.std.proofs.lemmas.Bool.{eq-eqb}
 use Rattle.std.proofs.lemmas.Bool.Decides.{nat_tests}
 use Rattle.std.proofs.lemmas.List.{get_or-map, length-map}
@@ -9,27 +9,11 @@ use Rattle.std.specs.Prelude.{find, slice_index_or, unwrap_or}
 use Rattle.hs_entry.specs.declared.rank.Rank.{Rank}
 use Rattle.hs_entry.specs.Entries.{rank_of}
 use Rattle.hs_events.specs.Taken.{is_best, is_taken, or_blank, taken_list, taken_lists, taken_peer}
-use Rattle.hs_fold.proofs.OneListLemmas.{one-chosen}
-use Rattle.hs_fold.specs.Opened.{chosen, chosen_each, outranks}
+use Rattle.hs_fold.specs.Opened.{outranks}
 use Rattle.hs_fold.specs.Shards.Setting.{Numbered}
 use Rattle.hs_limits.specs.declared.shape.Shape.{Shape}
 use Rattle.hs_members.specs.Members.{home_of, peers_of}
-
--- ---- of one copy each that copy counts
-
-one_each : (list : Numbered) → chosen (list ∷ []) ≡ list
-one_each list = ap (λ lists. first lists) (one-chosen list)
-  where
-    first : List Numbered → Numbered
-    first [] = []
-    first (x ∷ xs) = x
-
-all_chosen : (lists : List Numbered) → chosen_each (length lists) 1 lists ≡ lists
-all_chosen [] = refl
-all_chosen (list ∷ lists) = λ i. one_each list i ∷ all_chosen lists i
-
-chosen_of : (shards copies : ℕ) (lists : List Numbered) → copies ≡ 1 → length lists ≡ shards → chosen_each shards copies lists ≡ lists
-chosen_of shards copies lists one count = ap (λ n. chosen_each shards n lists) one ∙ ap (λ n. chosen_each n 1 lists) (sym count) ∙ all_chosen lists
+use Rattle.hs_standing.proofs.ImageLemmas.{chosen_of}
 
 -- ---- small words
 

@@ -1,5 +1,5 @@
 -- A run that never opened a core: nothing was told, and where memory was wanting each disk keeps its list.
-use Rattle.std.proofs.Common.{◌≡◌, ◌∙◌, inl, inr, ap, sym, subst, ℕ, ◌<◌, ◌++◌, true, false, List, [], Option}
+use Rattle.std.proofs.Common.{◌≡◌, ◌∙◌, inl, inr, ap, sym, subst, ℕ, ◌<◌, ◌++◌, true, false, List, []}
 use Rattle.std.proofs.lemmas.Bool.{false≢true}
 use Rattle.std.specs.List.{AllByRecursion}
 use Rattle.hs_clauses.proofs.CountedLemmas.{counted_cases, entry_begins, entry_rested}
@@ -8,8 +8,6 @@ use Rattle.hs_clauses.proofs.RestLemmas.{IsRested, rest_logs, rest_reopens}
 use Rattle.hs_clauses.specs.Shown.{IsUnopened, OnDisks}
 use Rattle.hs_fold.specs.Good.{IsBegun, good_from}
 use Rattle.hs_journal.specs.declared.entry.JournalEntry.{JournalEntry}
-use Rattle.hs_journal.specs.Order.{IsAt, IsOfLine, IsOrdered}
-use Rattle.hs_model.specs.declared.command.Command.{Command}
 use Rattle.hs_model.specs.declared.course.CourseItem.{CourseItem}
 use Rattle.hs_model.specs.Store.{Store}
 use Rattle.hs_ports.specs.Objects.{IsDuring}
@@ -21,26 +19,9 @@ use Rattle.hs_promise.specs.Machine.{NeverOpened}
 use Rattle.hs_promise.specs.Headers.{KeepsHeaders}
 use Rattle.hs_promise.specs.Run.{Ran, Script}
 use Rattle.hs_promise.specs.Stops.{Stops}
+use Rattle.hs_told.proofs.OpenedLemmas.{nothing_told}
 
 -- ---- nothing was told
-
-nothing_at : (i : ℕ) (e : JournalEntry) → IsAt [] i e → ⊥
-nothing_at i e at = cc at
-
-no_line : (i n : ℕ) → IsOfLine [] i n → ⊥
-no_line i n x = nothing_at i x.entry x.at
-
-nothing_told : (commands : ℕ → Option Command) → IsOrdered commands []
-nothing_told commands = record {
-  named = λ i n x. absurd (no_line i n x);
-  once = λ i j n x y. absurd (no_line i n x);
-  alone = λ i k session x s d l m v w. absurd (no_line i k x);
-  busy = λ i k session f a h s d l v. absurd (nothing_at i f a);
-  only_busy = λ i k l f a h b. absurd (nothing_at i f a);
-  prompt = λ i j k m x p y lt. absurd (no_line i k x);
-  prompt_busy = λ i j k m l f a h b y lt. absurd (nothing_at i f a);
-  moments = λ i j f g a b le. absurd (nothing_at i f a);
-}
 
 no_answers : (S : Script) (entry : Store) → Answers S entry []
 no_answers S entry = record { legal = tt; replied = tt; ordered = nothing_told S.commands }

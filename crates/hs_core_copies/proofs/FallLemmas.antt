@@ -146,7 +146,7 @@ rest_moves g x c = keeps_if (steps_move g) (has_good x c.members) (commit x) c (
 
 -- ---- a peer of another shard
 
-range_all : (P : ℕ → Type 0) (n k : ℕ) → ((q : ℕ) → n ≤ q → q < n + k → P q) → All P (range_with_len n k)
+pub range_all : (P : ℕ → Type 0) (n k : ℕ) → ((q : ℕ) → n ≤ q → q < n + k → P q) → All P (range_with_len n k)
 range_all P n zero h = All-nil P
 range_all P n (suc k) h = All-cons P n (range_with_len (n + 1) k) (h n (omega arith) (omega arith)) (range_all P (n + 1) k (λ q a b. h q (omega (arith, a)) (omega (arith, b))))
 
@@ -294,7 +294,7 @@ among_range q n (suc k) a b = elim (cases_eq q n) [
 pub in_peers : (shape : Shape) (g : ℕ) (x : Group) (q : ℕ) → shape ≡ x.shape → x.shard ≡ g → IsHome x q → IsAmong q (peers_of shape g)
 in_peers shape g x q e f h = rw (e, ← f) (among_range q (first_peer x) x.shape.copies h.0 h.1)
 
-among_filter : (test : ℕ → Bool) (q : ℕ) (qs : List ℕ) → test q ≡ true → IsAmong q qs → IsAmong q (filter test qs)
+pub among_filter : (test : ℕ → Bool) (q : ℕ) (qs : List ℕ) → test q ≡ true → IsAmong q qs → IsAmong q (filter test qs)
 among_filter test q [] e k = absurd k
 among_filter test q (p ∷ qs) e k = go (test p) refl k (λ rest. among_filter test q qs e rest)
   where

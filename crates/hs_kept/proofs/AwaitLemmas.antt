@@ -1,8 +1,8 @@
 -- At a moment of a run that stands, what is pending of images that count is what its lines ask for.
-use Rattle.std.proofs.Common.{◌≡◌, ◌∙◌, ap, sym, subst, refl, ℕ, suc, ◌+◌, ◌*◌, ◌<◌, ◌≤◌, true, List, [], ◌∷◌, ◌++◌, Option, Some, length, take, drop, arith}
+use Rattle.std.proofs.Common.{◌≡◌, ◌∙◌, ap, sym, subst, refl, ℕ, ◌+◌, ◌*◌, ◌<◌, ◌≤◌, List, [], ◌∷◌, ◌++◌, Option, Some, length, take, drop, arith}
 use Rattle.std.proofs.lemmas.List.{drop-append-le}
 use Rattle.std.specs.List.{AllByRecursion}
-use Rattle.std.specs.Prelude.{slice_get, unwrap_or}
+use Rattle.std.specs.Prelude.{unwrap_or}
 use Rattle.hs_asking.proofs.HandLemmas.{all_append}
 use Rattle.hs_core_words.specs.Looking.{front_of, group_of}
 use Rattle.hs_fold.specs.Pending.{asked_by}
@@ -12,7 +12,6 @@ use Rattle.hs_events.specs.Whole.{Whole}
 use Rattle.hs_fold.specs.Catalogue.{Shard}
 use Rattle.hs_fold.specs.Good.{taken_below}
 use Rattle.hs_fold.specs.Images.{image_at}
-use Rattle.hs_fold.specs.Opened.{chosen, chosen_each}
 use Rattle.hs_fold.specs.Prefix.{IsNumbered}
 use Rattle.hs_fold.specs.Runs.Catalogue.{apply, catalogue_of}
 use Rattle.hs_fold.specs.Runs.Facts.{Catalogue}
@@ -21,7 +20,6 @@ use Rattle.hs_fold.specs.Shards.Happening.{Happening}
 use Rattle.hs_fold.specs.Shards.Images.{AreGoodImages, Image, IsGoodImage, Stop}
 use Rattle.hs_fold.specs.Shards.Outstanding.{pending, pending_of}
 use Rattle.hs_fold.specs.Shards.Setting.{Numbered, Setting, shard_in}
-use Rattle.hs_fold.proofs.OneListLemmas.{one-chosen}
 use Rattle.hs_fold.proofs.PrefixLemmas.{last-length}
 use Rattle.hs_journal.specs.declared.entry.JournalEntry.{JournalEntry}
 use Rattle.hs_journal.specs.Moments.{below}
@@ -30,7 +28,6 @@ use Rattle.hs_model.specs.Store.{Store}
 use Rattle.hs_moments.specs.Joint.{AtMoment}
 use Rattle.hs_moments.specs.Moments.{GivesFine}
 use Rattle.hs_moments.specs.WholeMachine.{last_of, whole_machine}
-use Rattle.hs_side.specs.Current.{list_in}
 use Rattle.hs_standing.proofs.PartLemmas.{IsFine, goes_front, one_pending}
 use Rattle.hs_standing.proofs.SaneLemmas.{front_sealed, good_counts, reach_numbered, waits_in_core}
 use Rattle.hs_standing.proofs.WaitLemmas.{each_numbered}
@@ -44,48 +41,7 @@ use Rattle.hs_standing.specs.Start.{Start, store_after}
 use Rattle.hs_kept.proofs.PendingLemmas.{comes_next, puts_as}
 use Rattle.hs_kept.proofs.RunningLemmas.{AllGood}
 use Rattle.hs_kept.specs.Pending.{IsNextOf, IsPendingAs, PutsAs}
-
--- ---- of one copy each that copy counts
-
-one_each : (list : Numbered) → chosen (list ∷ []) ≡ list
-one_each list = ap (λ lists. first lists) (one-chosen list)
-  where
-    first : List Numbered → Numbered
-    first [] = []
-    first (x ∷ xs) = x
-
-all_chosen : (lists : List Numbered) → chosen_each (length lists) 1 lists ≡ lists
-all_chosen [] = refl
-all_chosen (list ∷ lists) = λ i. one_each list i ∷ all_chosen lists i
-
-chosen_of : (shards copies : ℕ) (lists : List Numbered) → copies ≡ 1 → length lists ≡ shards → chosen_each shards copies lists ≡ lists
-chosen_of shards copies lists one count = ap (λ n. chosen_each shards n lists) one ∙ ap (λ n. chosen_each n 1 lists) (sym count) ∙ all_chosen lists
-
--- ---- images and their lists
-
-abbrev list_of : Image → Numbered
-list_of image = unwrap_or (list_in image) []
-
-logs_count : (images : List Image) → length (or_blank (image_logs images)) ≡ length images
-logs_count [] = refl
-logs_count (image ∷ images) = ap (λ n. suc n) (logs_count images)
-
-fine_lists : (lists : Lists) (images : List Image) (g : ℕ) → ((k : ℕ) → k < length images → (shard : ℕ) → shard ≡ g + k → IsFine lists shard (list_of (image_at images k)))
-    → AreFronts lists g (or_blank (image_logs images))
-fine_lists lists [] g f = tt
-fine_lists lists (image ∷ images) g f = (f 0 (omega arith) g (zero_right g), fine_lists lists images (g + 1) (λ k low shard e. f (suc k) (omega (arith, low)) shard (shift g k shard e)))
-  where
-    zero_right : (a : ℕ) → a ≡ a + 0
-    zero_right a = omega arith
-
-    shift : (a b n : ℕ) → n ≡ a + 1 + b → n ≡ a + suc b
-    shift a b n e = omega (arith, e)
-
-same_pending : (set : Setting) (f h : ℕ → ℕ) (g end : ℕ) (some : List Numbered) → g + length some ≡ end → ((shard : ℕ) → shard < end → f shard ≡ h shard) → pending set f g some ≡ pending set h g some
-same_pending set f h g end [] e same = refl
-same_pending set f h g end (list ∷ some) e same =
-    ap (λ n. pending_of (shard_in set g) n list ++ pending set f (g + 1) some) (same g (omega (arith, e)))
-    ∙ ap (λ es. pending_of (shard_in set g) (h g) list ++ es) (same_pending set f h (g + 1) end some (omega (arith, e)) same)
+use Rattle.hs_standing.proofs.ImageLemmas.{chosen_of, fine_lists, list_of, logs_count, same_pending}
 
 -- ---- what is pending of fronts is of what waits
 

@@ -41,7 +41,7 @@ use Rattle.hs_standing.specs.Changes.{IsBeside, IsIdle}
 use Rattle.hs_standing.specs.Copies.{IsSeated, KnowsItsCopies}
 use Rattle.hs_standing.specs.Walks.{IsReadFor, MayEvent, MayReport, Walks, WalksViews}
 
-beside_by : (a b : Core) → kept_of b ≡ kept_of a → HasSameLists a b → BringsNoRound a b → IsBeside a b
+pub beside_by : (a b : Core) → kept_of b ≡ kept_of a → HasSameLists a b → BringsNoRound a b → IsBeside a b
 beside_by a b kept lists rounds = record {
   limits = ap (λ (k : Kept). k.limits) kept;
   shape = lists.shape;
@@ -55,7 +55,7 @@ beside_by a b kept lists rounds = record {
 }
 
 -- the same messages are under way
-same_rounds : (a b : Core) → b.pool ≡ a.pool → BringsNoRound a b
+pub same_rounds : (a b : Core) → b.pool ≡ a.pool → BringsNoRound a b
 same_rounds a b same = subst (λ (p : Pool). BringsNoRound a (record a { pool = p })) (sym same) (known_same a.pool.messages)
 
 -- an act aside is beside a run

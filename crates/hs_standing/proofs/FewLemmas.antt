@@ -56,22 +56,22 @@ equal_most m n e = omega (arith, e)
 
 -- ---- which job it was
 
-seal_is : (number : ℕ) (j : Job) → is_seal_of number j ≡ true → j ≡ job.Seal number
+pub seal_is : (number : ℕ) (j : Job) → is_seal_of number j ≡ true → j ≡ job.Seal number
 seal_is number (job.Seal n) e = ap (λ k. job.Seal k) (sym (eqb-true number n e))
 seal_is number other e = absurd (cc e)
 
-reset_joins : (j : Job) → is_reset j ≡ true → is_of_joining j ≡ true
+pub reset_joins : (j : Job) → is_reset j ≡ true → is_of_joining j ≡ true
 reset_joins job.Reset e = refl
 reset_joins other e = absurd (cc e)
 
-copy_joins : (number : ℕ) (j : Job) → is_copy_of number j ≡ true → is_of_joining j ≡ true
+pub copy_joins : (number : ℕ) (j : Job) → is_copy_of number j ≡ true → is_of_joining j ≡ true
 copy_joins number (job.Copy from n) e = refl
 copy_joins number other e = absurd (cc e)
 
 -- ---- a list of another place
 
 -- all but one copy is as it was
-other_copy : (group : Group) (peer place : ℕ) (f : Replica → Replica) (m : Members) → IsGoodCopy group m place → (place ≡ peer - first_peer group → ⊥) → IsGoodCopy (change_copy peer f group) m place
+pub other_copy : (group : Group) (peer place : ℕ) (f : Replica → Replica) (m : Members) → IsGoodCopy group m place → (place ≡ peer - first_peer group → ⊥) → IsGoodCopy (change_copy peer f group) m place
 other_copy group peer place f m c apart = record {
   low = subst (λ n. place < n) (sym (length_set group.copies (peer - first_peer group) (f (copy_of group peer)))) c.low;
   good = c.good;
@@ -82,11 +82,11 @@ other_copy group peer place f m c apart = record {
     still : slice_index_or (slice_set group.copies (peer - first_peer group) (f (copy_of group peer))) place no_copy ≡ slice_index_or group.copies place no_copy
     still = other-at no_copy group.copies (peer - first_peer group) place (f (copy_of group peer)) apart
 
-peer_is : (first base i peer : ℕ) → first ≡ base + 0 → base ≤ peer → i ≡ peer - first → base + 0 + i ≡ peer
+pub peer_is : (first base i peer : ℕ) → first ≡ base + 0 → base ≤ peer → i ≡ peer - first → base + 0 + i ≡ peer
 peer_is first base i peer e l f = omega (arith, e, l, f)
 
 -- a peer at another place than one that is not good
-apart_of : (c : Core) (peer i : ℕ) → KnowsCopies (home peer c) c → is_good_status (status (peer_of (shape_of c) (home peer c) 0 + i) c.members) ≡ true → is_good_status (status_of peer c) ≡ false → i ≡ peer - first_peer (group_of (home peer c) c) → ⊥
+pub apart_of : (c : Core) (peer i : ℕ) → KnowsCopies (home peer c) c → is_good_status (status (peer_of (shape_of c) (home peer c) 0 + i) c.members) ≡ true → is_good_status (status_of peer c) ≡ false → i ≡ peer - first_peer (group_of (home peer c) c) → ⊥
 apart_of c peer i k good bad same =
     let is : peer_of (shape_of c) (home peer c) 0 + i ≡ peer = peer_is (first_peer (group_of (home peer c) c)) (home peer c * (shape_of c).copies) i peer (first_of (home peer c) c k) (div-mul-le_self peer (shape_of c).copies) same in
     cc (sym bad ∙ subst (λ n. is_good_status (status n c.members) ≡ true) is good)

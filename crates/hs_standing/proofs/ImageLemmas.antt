@@ -35,31 +35,31 @@ use Rattle.hs_standing.proofs.PartLemmas.{IsFine, goes_front}
 
 -- ---- of one copy each that copy counts
 
-one_each : (list : Numbered) → chosen (list ∷ []) ≡ list
+pub one_each : (list : Numbered) → chosen (list ∷ []) ≡ list
 one_each list = ap (λ lists. first lists) (one-chosen list)
   where
     first : List Numbered → Numbered
     first [] = []
     first (x ∷ xs) = x
 
-all_chosen : (lists : List Numbered) → chosen_each (length lists) 1 lists ≡ lists
+pub all_chosen : (lists : List Numbered) → chosen_each (length lists) 1 lists ≡ lists
 all_chosen [] = refl
 all_chosen (list ∷ lists) = λ i. one_each list i ∷ all_chosen lists i
 
-chosen_of : (shards copies : ℕ) (lists : List Numbered) → copies ≡ 1 → length lists ≡ shards → chosen_each shards copies lists ≡ lists
+pub chosen_of : (shards copies : ℕ) (lists : List Numbered) → copies ≡ 1 → length lists ≡ shards → chosen_each shards copies lists ≡ lists
 chosen_of shards copies lists one count = ap (λ n. chosen_each shards n lists) one ∙ ap (λ n. chosen_each n 1 lists) (sym count) ∙ all_chosen lists
 
 -- ---- images and their lists
 
 -- the list of an image; where it is no log, it counts as blank
-abbrev list_of : Image → Numbered
+abbrev pub list_of : Image → Numbered
 list_of image = unwrap_or (list_in image) []
 
-logs_count : (images : List Image) → length (or_blank (image_logs images)) ≡ length images
+pub logs_count : (images : List Image) → length (or_blank (image_logs images)) ≡ length images
 logs_count [] = refl
 logs_count (image ∷ images) = ap (λ n. suc n) (logs_count images)
 
-fine_lists : (lists : Lists) (images : List Image) (g : ℕ) → ((k : ℕ) → k < length images → (shard : ℕ) → shard ≡ g + k → IsFine lists shard (list_of (image_at images k)))
+pub fine_lists : (lists : Lists) (images : List Image) (g : ℕ) → ((k : ℕ) → k < length images → (shard : ℕ) → shard ≡ g + k → IsFine lists shard (list_of (image_at images k)))
     → AreFronts lists g (or_blank (image_logs images))
 fine_lists lists [] g f = tt
 fine_lists lists (image ∷ images) g f = (f 0 (omega arith) g (zero_right g), fine_lists lists images (g + 1) (λ k low shard e. f (suc k) (omega (arith, low)) shard (shift g k shard e)))
@@ -71,7 +71,7 @@ fine_lists lists (image ∷ images) g f = (f 0 (omega arith) g (zero_right g), f
     shift a b n e = omega (arith, e)
 
 -- what is pending goes by what took effect of these shards
-same_pending : (set : Setting) (f h : ℕ → ℕ) (g end : ℕ) (some : List Numbered) → g + length some ≡ end → ((shard : ℕ) → shard < end → f shard ≡ h shard) → pending set f g some ≡ pending set h g some
+pub same_pending : (set : Setting) (f h : ℕ → ℕ) (g end : ℕ) (some : List Numbered) → g + length some ≡ end → ((shard : ℕ) → shard < end → f shard ≡ h shard) → pending set f g some ≡ pending set h g some
 same_pending set f h g end [] e same = refl
 same_pending set f h g end (list ∷ some) e same =
     ap (λ n. pending_of (shard_in set g) n list ++ pending set f (g + 1) some) (same g (omega (arith, e)))

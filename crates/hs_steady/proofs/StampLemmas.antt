@@ -1,5 +1,5 @@
 -- Lists of one rank are one, where disks of one shard may have them.
-use Rattle.std.proofs.Common.{◌≡◌, ◌∙◌, ap, sym, subst, refl, inl, inr, ℕ, zero, suc, ◌+◌, ◌<◌, ◌≤◌, true, false, List, [], ◌∷◌, ◌++◌, Some, None, length, map, fold, arith}
+use Rattle.std.proofs.Common.{◌≡◌, ◌∙◌, ap, sym, subst, refl, inl, inr, ℕ, zero, suc, ◌+◌, ◌<◌, ◌≤◌, false, List, [], ◌∷◌, ◌++◌, Some, None, length, map, fold, arith}
 use Rattle.std.proofs.lemmas.Bool.{cases_lt}
 use Rattle.std.proofs.lemmas.List.{take-map, take_at}
 use Rattle.std.proofs.lemmas.List.Elements.{All-head, All-tail}
@@ -16,7 +16,6 @@ use Rattle.hs_core_copies.specs.InStep.{IsOf}
 use Rattle.hs_core_copies.specs.Lists.{numbered}
 use Rattle.hs_core_words.specs.Looking.{home}
 use Rattle.hs_entry.specs.declared.entry.Entry.{Entry}
-use Rattle.hs_entry.specs.declared.entry.Entry.TheVariants as kind
 use Rattle.hs_entry.specs.declared.rank.Rank.{Rank}
 use Rattle.hs_entry.specs.Entries.{is_of_base, rank_after, rank_of}
 use Rattle.hs_events.specs.Whole.{Whole, reach}
@@ -28,24 +27,12 @@ use Rattle.hs_whole_copies.proofs.LineageLemmas.{one_to}
 use Rattle.hs_whole_copies.proofs.ReachLemmas.{longest_front}
 use Rattle.hs_whole_copies.specs.Whole.{ArePlain, IsShardInStep, IsWholeInStep, longest}
 use Rattle.hs_steady.proofs.SteadyLemmas.{its_shard}
+use Rattle.hs_whole_copies.proofs.OpenLemmas.{rank_step}
 
 -- ---- what entries tell
 
 abbrev what : Item Entry → Entry
 what x = x.what
-
-rank_step : (r : Rank) (n : ℕ) (x : Entry) → is_of_base x ≡ false → rank_after r n x ≡ record { view = view_after r.view x; number = n }
-rank_step r n (kind.View view) e = refl
-rank_step r n (kind.Block op least bytes) e = refl
-rank_step r n (kind.Mark op least block address) e = refl
-rank_step r n (kind.Root op held address key) e = refl
-rank_step r n (kind.Drop op key) e = refl
-rank_step r n (kind.Enter op epoch) e = refl
-rank_step r n (kind.Got sender epoch round total deltas) e = refl
-rank_step r n (kind.Base view epoch swept round frames) e = let wrong : true ≡ false = e in absurd (cc wrong)
-rank_step r n (kind.KeptBlock born mark flags count bytes) e = let wrong : true ≡ false = e in absurd (cc wrong)
-rank_step r n (kind.KeptRoot created dropped counted address key) e = let wrong : true ≡ false = e in absurd (cc wrong)
-rank_step r n (kind.KeptRound way other epoch round total deltas) e = let wrong : true ≡ false = e in absurd (cc wrong)
 
 -- of a front of plain entries
 ranks : (k : ℕ) (xs : List (Item Entry)) → ArePlain (map what xs) → (r : Rank) (n : ℕ) → r.number ≡ n

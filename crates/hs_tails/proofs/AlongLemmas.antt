@@ -4,16 +4,14 @@ use Rattle.std.proofs.lemmas.Bool.{cases_lt}
 use Rattle.std.proofs.lemmas.Nat.{div_below}
 use Rattle.hs_anatomy.proofs.AsideLemmas.{kept_follow, kept_joining}
 use Rattle.hs_anatomy.proofs.EventLemmas.{does_acts}
-use Rattle.hs_anatomy.proofs.ListLemmas.{HasSameLists, lists_aside, lists_follow, lists_joining}
+use Rattle.hs_anatomy.proofs.ListLemmas.{lists_aside, lists_follow, lists_joining}
 use Rattle.hs_anatomy.proofs.RoundLemmas.{known_same, pool_follow, pool_joining}
 use Rattle.hs_anatomy.proofs.SizeLemmas.{sizes_good, sizes_leave, sizes_same}
 use Rattle.hs_anatomy.proofs.StepLemmas.{committed_low, step_is}
 use Rattle.hs_anatomy.proofs.StrokeLemmas.{strokes_of}
 use Rattle.hs_anatomy.specs.Acts.{Act, Acts, begun, AndThen, Asks, Aside, ByCopying, ByEmptying, ByNudge, ByRound, Copies, Empties, Enters, Falls, FindsDown, Gets, Goes, Hands, Hears, IsAnswered, IsAside, IsBehind, IsUrged, Joins, Loses, NoAct, Opens, Refuses, Repeats, Reports, Resends, Seals, SendsRound, Starts, Takes, TakesEffect, TellsDown, Views, bytes_report, fallen, joined, sealed_by, without_job}
 use Rattle.hs_anatomy.specs.Effect.{done_by, taken, told_at_once}
-use Rattle.hs_anatomy.specs.Kept.{Kept, kept_of}
 use Rattle.hs_anatomy.specs.Refusing.{refusal_in}
-use Rattle.hs_anatomy.specs.Rounds.{BringsNoRound}
 use Rattle.hs_anatomy.specs.Sizes.{Sizes, sizes_of}
 use Rattle.hs_answered.specs.Telling.{Judging}
 use Rattle.hs_awaiting.specs.declared.waiting.Waiting.{Waiting}
@@ -39,10 +37,10 @@ use Rattle.hs_model.specs.declared.reply.Reply.{Reply}
 use Rattle.hs_model.specs.Store.{Store}
 use Rattle.hs_ops.specs.Operations.{bytes_step, go_step}
 use Rattle.hs_post.specs.declared.message.Message.TheVariants as message
-use Rattle.hs_post.specs.Pool.{Pool, message_at, without}
+use Rattle.hs_post.specs.Pool.{message_at, without}
 use Rattle.hs_rejoin.specs.Rejoin.{copied, emptied}
 use Rattle.hs_replica.specs.Group.{Group, committed, is_peer, new_group, on_copied, on_emptied, on_have, take_entry}
-use Rattle.hs_standing.proofs.ActLemmas.{beside_aside}
+use Rattle.hs_standing.proofs.ActLemmas.{beside_aside, beside_by, same_rounds}
 use Rattle.hs_standing.proofs.BesideLemmas.{beside_begun, beside_ended, beside_leave, beside_nowhere, beside_tasks, beside_without}
 use Rattle.hs_standing.proofs.AlongWalkLemmas.{do_refuses, knows_begun, may_begun, seated_begun}
 use Rattle.hs_standing.proofs.AtomLemmas.{set_on}
@@ -152,22 +150,6 @@ taken_listed s a took shard number entry next h g = by (one_or_other g shard)
 pub record IsAlong (by : Judging) (start : Store) (Tail : ℕ → List Entry → Type 0) (s : Core) (cs : List Folded) (took : ℕ → List Entry) (a : Core) : Type 0 where
   pub gone : GoneWith by start Tail (began_at s cs) took a
   pub listed : (g : ℕ) → IsListed s (took g) g a
-
-beside_by : (a b : Core) → kept_of b ≡ kept_of a → HasSameLists a b → BringsNoRound a b → IsBeside a b
-beside_by a b kept lists rounds = record {
-  limits = ap (λ (k : Kept). k.limits) kept;
-  shape = lists.shape;
-  catalogues = ap (λ (k : Kept). k.catalogues) kept;
-  sessions = ap (λ (k : Kept). k.sessions) kept;
-  operations = ap (λ (k : Kept). k.operations) kept;
-  told = ap (λ (k : Kept). (k.journal ++ k.refused) ++ k.entries) kept;
-  waiting = lists.waiting;
-  front = lists.front;
-  rounds = rounds;
-}
-
-same_rounds : (a b : Core) → b.pool ≡ a.pool → BringsNoRound a b
-same_rounds a b same = subst (λ (p : Pool). BringsNoRound a (record a { pool = p })) (sym same) (known_same a.pool.messages)
 
 some_waiting : (w u : Waiting) → Some w ≡ Some u → w ≡ u
 some_waiting w u e = cc e

@@ -1,8 +1,7 @@
 -- What takes effect by an event waited first as it began: what comes first in an event leaves all that is committed among what waited.
-use Rattle.std.proofs.Common.{◌≡◌, ◌∙◌, ap, sym, subst, ◌⊎◌, inl, inr, ℕ, ◌+◌, ◌-◌, ◌*◌, ◌<◌, ◌≤◌, Bool, true, false, List, [], ◌∷◌, ◌++◌, Some, None, refl, arith, length, max, slice_index_or, slice_set, eqb-true, if◌then◌else◌}
+use Rattle.std.proofs.Common.{◌≡◌, ◌∙◌, ap, sym, subst, ◌⊎◌, inl, inr, ℕ, ◌+◌, ◌-◌, ◌*◌, ◌<◌, ◌≤◌, Bool, true, false, List, [], ◌∷◌, ◌++◌, Some, None, refl, arith, length, max, slice_index_or, if◌then◌else◌}
 use Rattle.std.proofs.lemmas.Bool.{cases_lt}
 use Rattle.std.proofs.lemmas.List.{get_or_past}
-use Rattle.std.proofs.Math.Nat.{div-mul-le_self}
 use Rattle.std.specs.Option.{option_map_or}
 use Rattle.hs_anatomy.proofs.ListLemmas.{lists_aside}
 use Rattle.hs_anatomy.proofs.StepLemmas.{length_set}
@@ -15,13 +14,9 @@ use Rattle.hs_core_words.specs.Joining.{begin_joining, follow_lead, joining_peer
 use Rattle.hs_core_words.specs.Looking.{front_of, group_of, home, lead_of, shape_of, status_of}
 use Rattle.hs_core_words.specs.State.{Core}
 use Rattle.hs_core_words.specs.Views.{begin_view, change_view}
-use Rattle.hs_desk.specs.Answers.{is_copy_of, is_reset, is_seal_of}
 use Rattle.hs_desk.specs.declared.done.Done.{Done}
 use Rattle.hs_desk.specs.declared.done.Done.TheVariants as done
-use Rattle.hs_desk.specs.declared.job.Job.{Job}
-use Rattle.hs_desk.specs.declared.job.Job.TheVariants as job
 use Rattle.hs_effects.proofs.GroupLemmas.{group_changed}
-use Rattle.hs_fold.proofs.Shards.PlaceLemmas.{other-at}
 use Rattle.hs_limits.specs.declared.limits.PeerStatus.TheVariants.{Down, Good}
 use Rattle.hs_limits.specs.declared.shape.Shape.{Shape}
 use Rattle.hs_limits.specs.Shape.{peer_of}
@@ -29,49 +24,17 @@ use Rattle.hs_members.specs.Members.{Members, become, has_good, home_of, is_good
 use Rattle.hs_post.specs.declared.message.Message.TheVariants as message
 use Rattle.hs_post.specs.Pool.{message_at, without}
 use Rattle.hs_rejoin.specs.Rejoin.{copied, emptied, follow}
-use Rattle.hs_replica.specs.Group.{Group, change_copy, commit_front, copy_of, first_peer, have, hears, is_peer, last_number, lead, new_group, no_copy, on_copied, on_emptied, on_have, on_sealed}
+use Rattle.hs_replica.specs.Group.{Group, change_copy, commit_front, copy_of, have, hears, is_peer, last_number, lead, new_group, on_copied, on_emptied, on_have, on_sealed}
 use Rattle.hs_replica.specs.declared.replica.Replica.{Replica}
 use Rattle.hs_standing.proofs.GrownLemmas.{Grown, grown_each, grown_still, grown_with}
 use Rattle.hs_standing.proofs.KnownLemmas.{copy_known, heard_known, sealed_known}
-use Rattle.hs_standing.proofs.RoomyLemmas.{IsGoodCopy, first_of, good_before, good_behind, good_copy}
+use Rattle.hs_standing.proofs.RoomyLemmas.{IsGoodCopy, good_before, good_behind, good_copy}
 use Rattle.hs_standing.proofs.SeatedLemmas.{any_place, good_shard}
 use Rattle.hs_standing.specs.Copies.{IsSeated, KnowsCopies, KnowsItsCopies, is_of_joining}
 use Rattle.hs_tails.proofs.FirstLemmas.{IsFresh, fresh_grown, fresh_listed, fresh_same, fresh_view}
-
--- ---- which job it was
-
-seal_is : (number : ℕ) (j : Job) → is_seal_of number j ≡ true → j ≡ job.Seal number
-seal_is number (job.Seal n) e = ap (λ k. job.Seal k) (sym (eqb-true number n e))
-seal_is number other e = absurd (cc e)
-
-reset_joins : (j : Job) → is_reset j ≡ true → is_of_joining j ≡ true
-reset_joins job.Reset e = refl
-reset_joins other e = absurd (cc e)
-
-copy_joins : (number : ℕ) (j : Job) → is_copy_of number j ≡ true → is_of_joining j ≡ true
-copy_joins number (job.Copy from n) e = refl
-copy_joins number other e = absurd (cc e)
+use Rattle.hs_standing.proofs.FewLemmas.{apart_of, copy_joins, other_copy, reset_joins, seal_is}
 
 -- ---- a list of another place
-
-other_copy : (group : Group) (peer place : ℕ) (f : Replica → Replica) (m : Members) → IsGoodCopy group m place → (place ≡ peer - first_peer group → ⊥) → IsGoodCopy (change_copy peer f group) m place
-other_copy group peer place f m c apart = record {
-  low = subst (λ n. place < n) (sym (length_set group.copies (peer - first_peer group) (f (copy_of group peer)))) c.low;
-  good = c.good;
-  own = subst (λ (x : Replica). x.sealed ≤ length x.stamps) (sym still) c.own;
-  all = subst (λ (x : Replica). x.sealed ≤ last_number group) (sym still) c.all;
-}
-  where
-    still : slice_index_or (slice_set group.copies (peer - first_peer group) (f (copy_of group peer))) place no_copy ≡ slice_index_or group.copies place no_copy
-    still = other-at no_copy group.copies (peer - first_peer group) place (f (copy_of group peer)) apart
-
-peer_is : (first base i peer : ℕ) → first ≡ base + 0 → base ≤ peer → i ≡ peer - first → base + 0 + i ≡ peer
-peer_is first base i peer e l f = omega (arith, e, l, f)
-
-apart_of : (c : Core) (peer i : ℕ) → KnowsCopies (home peer c) c → is_good_status (status (peer_of (shape_of c) (home peer c) 0 + i) c.members) ≡ true → is_good_status (status_of peer c) ≡ false → i ≡ peer - first_peer (group_of (home peer c) c) → ⊥
-apart_of c peer i k good bad same =
-    let is : peer_of (shape_of c) (home peer c) 0 + i ≡ peer = peer_is (first_peer (group_of (home peer c) c)) (home peer c * (shape_of c).copies) i peer (first_of (home peer c) c k) (div-mul-le_self peer (shape_of c).copies) same in
-    cc (sym bad ∙ subst (λ n. is_good_status (status n c.members) ≡ true) is good)
 
 same_most : (n : ℕ) → n ≤ n
 same_most n = omega arith

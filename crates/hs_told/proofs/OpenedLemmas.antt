@@ -16,13 +16,13 @@ use Rattle.hs_told.specs.InTurn.{IsInTurn}
 use Rattle.hs_told.specs.Part.{asking, part_of}
 use Rattle.hs_told.specs.Turns.{Turns}
 
-nothing_at : (i : ℕ) (e : JournalEntry) → IsAt [] i e → ⊥
+pub nothing_at : (i : ℕ) (e : JournalEntry) → IsAt [] i e → ⊥
 nothing_at i e at = cc at
 
-no_line : (i n : ℕ) → IsOfLine [] i n → ⊥
+pub no_line : (i n : ℕ) → IsOfLine [] i n → ⊥
 no_line i n x = nothing_at i x.entry x.at
 
-nothing_told : (commands : ℕ → Option Command) → IsOrdered commands []
+pub nothing_told : (commands : ℕ → Option Command) → IsOrdered commands []
 nothing_told commands = record {
   named = λ i n x. absurd (no_line i n x);
   once = λ i j n x y. absurd (no_line i n x);

@@ -1,12 +1,12 @@
 -- Behind every event a joining peer copies from the lead.
-use Rattle.std.proofs.Common.{◌≡◌, ◌≢◌, ◌⊎◌, ◌∙◌, ap, sym, subst, refl, inl, inr, arith, ℕ, zero, suc, ◌+◌, ◌-◌, ◌*◌, ◌/◌, ◌<◌, ◌≤◌, ◌==◌, ◌&&◌, max, not, eqb-true, Bool, true, false, if◌then◌else◌, List, [], ◌∷◌, Option, Some, None, length}
+use Rattle.std.proofs.Common.{◌≡◌, ◌≢◌, ◌⊎◌, ◌∙◌, ap, sym, subst, refl, inl, inr, arith, ℕ, ◌+◌, ◌-◌, ◌*◌, ◌/◌, ◌<◌, ◌≤◌, ◌==◌, ◌&&◌, max, not, eqb-true, Bool, true, false, if◌then◌else◌, List, [], ◌∷◌, Option, Some, None, length}
 use Rattle.std.proofs.lemmas.Bool.{cases_eq}
 use Rattle.std.proofs.lemmas.List.{length-set}
-use Rattle.std.proofs.lemmas.List.Elements.{All-cons, All-filter, All-head, All-nil, All-tail}
+use Rattle.std.proofs.lemmas.List.Elements.{All-filter, All-head, All-tail}
 use Rattle.std.proofs.lemmas.Nat.{div-mul-add}
-use Rattle.std.specs.List.{All, range_with_len}
+use Rattle.std.specs.List.{All}
 use Rattle.std.specs.Option.{option_map}
-use Rattle.std.specs.Prelude.{drop, filter, nat_lt}
+use Rattle.std.specs.Prelude.{drop, nat_lt}
 use Rattle.hs_anatomy.proofs.EventLemmas.{does_by}
 use Rattle.hs_anatomy.proofs.StepLemmas.{step_is}
 use Rattle.hs_anatomy.specs.Acts.{begun}
@@ -18,7 +18,7 @@ use Rattle.hs_copies.proofs.StatusLemmas.{become_here, become_members, become_ot
 use Rattle.hs_copies.specs.Lists.{IsAmong}
 use Rattle.hs_copies.specs.Machine.{Copies}
 use Rattle.hs_core_copies.proofs.DeliverLemmas.{message_has}
-use Rattle.hs_core_copies.proofs.FallLemmas.{IsLost, down_by, in_peers, lost_with}
+use Rattle.hs_core_copies.proofs.FallLemmas.{IsLost, among_filter, down_by, in_peers, lost_with, range_all}
 use Rattle.hs_core_copies.proofs.LeadLemmas.{good_as_told}
 use Rattle.hs_core_copies.proofs.OpeningLemmas.{viewed_members}
 use Rattle.hs_core_copies.proofs.PlaceLemmas.{changed_kept, group_here, rejoin_here, rejoin_other, renewed_kept}
@@ -69,24 +69,10 @@ use Rattle.hs_whole_copies.specs.Whole.{FollowsLead}
 
 -- ---- peers of a shard
 
-range_all : (P : ℕ → Type 0) (n k : ℕ) → ((q : ℕ) → n ≤ q → q < n + k → P q) → All P (range_with_len n k)
-range_all P n zero h = All-nil P
-range_all P n (suc k) h = All-cons P n (range_with_len (n + 1) k) (h n (omega arith) (omega arith)) (range_all P (n + 1) k (λ q a b. h q (omega (arith, a)) (omega (arith, b))))
-
 peers_apart : (shape : Shape) (g x : ℕ) → g ≢ x → All (λ p. IsOf shape g p → ⊥) (peers_of shape x)
 peers_apart shape g x ne = range_all (λ p. IsOf shape g p → ⊥) (peer_of shape x 0) shape.copies (λ q a b own.
     let e : q ≡ x * shape.copies + (q - x * shape.copies) = omega (arith, a) in
     ne (sym own ∙ ap (λ k. k / shape.copies) e ∙ div-mul-add x shape.copies (q - x * shape.copies) (omega (arith, a, b))))
-
-among_filter : (test : ℕ → Bool) (q : ℕ) (qs : List ℕ) → test q ≡ true → IsAmong q qs → IsAmong q (filter test qs)
-among_filter test q [] e k = absurd k
-among_filter test q (p ∷ qs) e k = go (test p) refl k (λ rest. among_filter test q qs e rest)
-  where
-    go : (b : Bool) → test p ≡ b → IsAmong q (p ∷ qs) → (IsAmong q qs → IsAmong q (filter test qs)) → IsAmong q (filter test (p ∷ qs))
-    go true i (inl same) h = rw i (inl same)
-    go true i (inr rest) h = rw i (inr (h rest))
-    go false i (inl same) h = let wrong : true ≡ false = sym e ∙ ap test same ∙ i in absurd (cc wrong)
-    go false i (inr rest) h = rw i (h rest)
 
 -- ---- joining peers copy from a lead from now on
 

@@ -80,7 +80,7 @@ what_items : (es : List Entry) → map what (map item_of es) ≡ es
 what_items [] = refl
 what_items (x ∷ es) = ap (λ xs. x ∷ xs) (what_items es)
 
-rank_step : (r : Rank) (n : ℕ) (x : Entry) → is_of_base x ≡ false → rank_after r n x ≡ record { view = view_after r.view x; number = n }
+pub rank_step : (r : Rank) (n : ℕ) (x : Entry) → is_of_base x ≡ false → rank_after r n x ≡ record { view = view_after r.view x; number = n }
 rank_step r n (kind.View view) e = refl
 rank_step r n (kind.Block op least bytes) e = refl
 rank_step r n (kind.Mark op least block address) e = refl
