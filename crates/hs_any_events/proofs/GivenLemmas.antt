@@ -1,4 +1,4 @@
--- A Mark that gives its block leaves the plain store valid, whatever its write writes: what the operation holds then was given.
+-- A Mark that gives its block, whatever its write writes: what it leaves, and that the plain store is valid then, since what the operation holds was given.
 use Rattle.std.proofs.Common.{◌≡◌, ◌∙◌, sym, ap, subst, inl, inr, ℕ, ◌+◌, ◌==◌, true, false, cond, List, [], ◌∷◌, Option, Some, None, refl, nat_le, le_refl, slice_index}
 use Rattle.std.proofs.lemmas.Map.Made.{lookup-map_values}
 use Rattle.std.specs.BTreeMap.{insert_entry, is_at}
@@ -55,7 +55,7 @@ use Rattle.hs_ops.specs.declared.step.OpStep.{OpStep}
 use Rattle.hs_ops.specs.declared.step.OpStep.TheVariants.{Answer}
 use Rattle.hs_ops.specs.Going.{on_effect}
 use Rattle.hs_ops.specs.Operations.{effect_step}
-use Rattle.hs_ops.specs.Speaking.{judging_shard}
+use Rattle.hs_ops.specs.Speaking.{helds, judging_shard, least_epoch}
 use Rattle.hs_ops.specs.Views.{now_in, open_in}
 use Rattle.hs_replica.specs.Group.{committed}
 use Rattle.hs_shard.specs.declared.facts.Facts.{Facts}
@@ -68,16 +68,17 @@ use Rattle.hs_tokens.specs.Seats.{Seats}
 -- ---- the write of a Mark
 
 -- an operation that asks for a Mark writes at its address
-record IsWriteAt (a : Address) (o : Op) : Type 0 where
+pub record IsWriteAt (seats : Seats) (least : ℕ) (a : Address) (o : Op) : Type 0 where
   pub session : List ℕ
   pub payload : List ℕ
   pub handles : List ℕ
   pub is : o ≡ op.Write session payload handles (Some a)
+  pub least_is : least ≡ least_epoch (helds seats session handles)
 
-write_at : (name : List ℕ → Address) (limits : Limits) (seats : Seats) (line least block : ℕ) (a : Address) (o : Op) → IsEntryOf name seats line o (kind.Mark line least block a) → IsCalled name seats o → IsOwn limits seats o → IsWriteAt a o
+write_at : (name : List ℕ → Address) (limits : Limits) (seats : Seats) (line least block : ℕ) (a : Address) (o : Op) → IsEntryOf name seats line o (kind.Mark line least block a) → IsCalled name seats o → IsOwn limits seats o → IsWriteAt seats least a o
 write_at name limits seats line least block a (op.Write session payload handles address) asks called own = go asks
   where
-    go : IsEntryOf name seats line (op.Write session payload handles address) (kind.Mark line least block a) → IsWriteAt a (op.Write session payload handles address)
+    go : IsEntryOf name seats line (op.Write session payload handles address) (kind.Mark line least block a) → IsWriteAt seats least a (op.Write session payload handles address)
     go (inl is) = absurd (cc is.0)
     go (inr is) =
         let names = called (own_block limits seats session payload handles address own) in
@@ -87,6 +88,7 @@ write_at name limits seats line least block a (op.Write session payload handles 
           payload = payload;
           handles = handles;
           is = ap (λ x. op.Write session payload handles x) (names ∙ ap (λ x. Some x) (sym (ap (λ x. given_address x) names)) ∙ ap (λ x. Some x) (sym given));
+          least_is = cc is.1;
         }
 write_at name limits seats line least block a (op.Root session key handle) asks called own = absurd (cc asks)
 write_at name limits seats line least block a (op.Drop key) asks called own = absurd (cc asks)
@@ -105,11 +107,27 @@ gives_there : (block : ℕ) (x : Option FoldedFacts) → option_map_or (λ (f : 
 gives_there block None e least a = absurd (cc e)
 gives_there block (Some f) e least a = ap (λ b. cond b (Some (changes (gives least a))) None) e
 
+-- what is so where its entry takes effect and gives it
+pub record IsGiven (name : List ℕ → Address) (cs : List Folded) (core : Core) (shard line least block : ℕ) (a : Address) : Type 0 where
+  pub asked : HasAsked name core shard (front_of shard core + 1 + 0) line (kind.Mark line least block a)
+  pub write : IsWriteAt core.sessions least a asked.waiting.operation.op
+  pub place : judging_shard (shape_of core).shards core.sessions (op.Write write.session write.payload write.handles (Some a)) ≡ shard
+  pub shows : Shows core.limits (store_with cs core.sessions) (op.Write write.session write.payload write.handles (Some a)) (view_for shard (op.Write write.session write.payload write.handles (Some a)) core)
+  pub tests : IsMarked least block a (catalogue_of shard core)
+  pub now_is : now_in (view_for shard (op.Write write.session write.payload write.handles (Some a)) (taken shard (kind.Mark line least block a) core)) ≡ epoch_at (store_with cs core.sessions) a
+  pub behind_is : store_with (folds_behind name cs shard (kind.Mark line least block a) core) core.sessions
+      ≡ with_sessions (record (store_of cs) { given = insert_entry address_cmp (store_of cs).given a (epoch_at (store_of cs) a) }) (as_sessions core.sessions)
+  pub told_is : told_at_once shard (kind.Mark line least block a) core
+      ≡ take_step line asked.waiting (Answer (reply.Dup (next_of (open_in (view_for shard (op.Write write.session write.payload write.handles (Some a)) (taken shard (kind.Mark line least block a) core)) write.session))
+      (now_in (view_for shard (op.Write write.session write.payload write.handles (Some a)) (taken shard (kind.Mark line least block a) core))))) (taken shard (kind.Mark line least block a) core)
+  pub left : store_with (folds_behind name cs shard (kind.Mark line least block a) core) (told_at_once shard (kind.Mark line least block a) core).sessions
+      ≡ hold_all (store_with (folds_behind name cs shard (kind.Mark line least block a) core) core.sessions) write.session (record { address = a; epoch = epoch_at (store_with cs core.sessions) a } ∷ [])
+
 -- ---- what it leaves
 
 module _ (views : ByViews) (name : List ℕ → Address) (cs : List Folded) (core : Core) (shard number line least block : ℕ) (a : Address) (its : IsLawful name core cs) (order : IsOrderly name core)
     (leads : committed (group_of shard core) ≡ Some (number, kind.Mark line least block a)) (may : MayFollow (setting_of name core) cs (next_deed shard (kind.Mark line least block a) core))
-    (did : (done_by shard (kind.Mark line least block a) core).effect.what ≡ what.Marked) (valid : IsValid (store_with cs core.sessions)) where
+    (did : (done_by shard (kind.Mark line least block a) core).effect.what ≡ what.Marked) where
   abbrev entry : Entry
   entry = kind.Mark line least block a
 
@@ -137,7 +155,7 @@ module _ (views : ByViews) (name : List ℕ → Address) (cs : List Folded) (cor
   abbrev w : Waiting
   w = asked.waiting
 
-  write : IsWriteAt a asked.waiting.operation.op
+  write : IsWriteAt core.sessions least a asked.waiting.operation.op
   write = write_at name core.limits core.sessions line least block a w.operation.op asked.asks (order.pending line w asked.at).called asked.own
 
   abbrev o : Op
@@ -179,14 +197,6 @@ module _ (views : ByViews) (name : List ℕ → Address) (cs : List Folded) (cor
       ∙ ap (λ b. with_sessions (cond b (record (store_of cs) { given = insert_entry address_cmp (store_of cs).given a (epoch_at (store_of cs) a) }) (store_of cs)) (as_sessions core.sessions))
       (ap (λ n. nat_le n (least + 1)) epoch_is ∙ tests.fresh)
 
-  given : Member (a, epoch_at s a) t.given
-  given = subst (λ (x : Store). Member (a, epoch_at s a) x.given) (sym behind_is) (insert-has s.given a (epoch_at s a))
-
-  rests : Reaches t.blocks (rests_on t (epoch_at s a)) a
-  rests =
-      start (starts-given (λ (root : Root). nat_le (epoch_at s a) (stands_in t root)) (λ (e : Address × ℕ). nat_le (epoch_at s a) e.1) t.roots t.given (a, epoch_at s a) given
-      (nat_le-true (epoch_at s a) (epoch_at s a) (le_refl (epoch_at s a))))
-
   -- ---- what its operation holds
 
   abbrev held : Held
@@ -214,12 +224,47 @@ module _ (views : ByViews) (name : List ℕ → Address) (cs : List Folded) (cor
   unfolding seats_after gained
   leaves = hold_is t core.sessions refl write.session (record { address = a; epoch = now_in (view_for shard o here) } ∷ []) ∙ ap (λ n. hold_all t write.session (record { address = a; epoch = n } ∷ [])) now_is
 
+  pub given_is : IsGiven name cs core shard line least block a
+  given_is = record {
+    asked = asked;
+    write = write;
+    place = place;
+    shows = shows;
+    tests = tests;
+    now_is = now_is;
+    behind_is = behind_is;
+    told_is = told_is;
+    left = ap (λ (c : Core). store_with behind c.sessions) told_is ∙ ap (λ (seats : Seats). store_with behind seats) seats_are ∙ leaves;
+  }
+
+-- ---- the store is valid then
+
+module _ (views : ByViews) (name : List ℕ → Address) (cs : List Folded) (core : Core) (shard number line least block : ℕ) (a : Address) (its : IsLawful name core cs) (order : IsOrderly name core)
+    (leads : committed (group_of shard core) ≡ Some (number, kind.Mark line least block a)) (may : MayFollow (setting_of name core) cs (next_deed shard (kind.Mark line least block a) core))
+    (did : (done_by shard (kind.Mark line least block a) core).effect.what ≡ what.Marked) (valid : IsValid (store_with cs core.sessions)) where
+  abbrev epoch : ℕ
+  epoch = epoch_at (store_with cs core.sessions) a
+
+  abbrev now : Store
+  now = store_with (folds_behind name cs shard (kind.Mark line least block a) core) core.sessions
+
+  g : IsGiven name cs core shard line least block a
+  g = given_is views name cs core shard number line least block a its order leads may did
+
+  given : Member (a, epoch_at (store_with cs core.sessions) a) now.given
+  given = subst (λ (x : Store). Member (a, epoch) x.given) (sym g.behind_is) (insert-has (store_with cs core.sessions).given a epoch)
+
+  rests : Reaches now.blocks (rests_on now epoch) a
+  rests =
+      start (starts-given (λ (root : Root). nat_le epoch (stands_in now root)) (λ (e : Address × ℕ). nat_le epoch e.1) now.roots now.given (a, epoch) given
+      (nat_le-true epoch epoch (le_refl epoch)))
+
   pub given_valid : IsValid (store_with (folds_behind name cs shard (kind.Mark line least block a) core) (told_at_once shard (kind.Mark line least block a) core).sessions)
   given_valid =
-      subst (λ (x : Store). IsValid x) (sym (ap (λ (c : Core). store_with behind c.sessions) told_is ∙ ap (λ (seats : Seats). store_with behind seats) seats_are ∙ leaves))
-      (is_from_valid (hold_all t write.session (held ∷ []))
-      (hold_all_valid t (valid_from_is t (valid_behind name cs core its valid shard entry may)) write.session (held ∷ [])
+      subst (λ (x : Store). IsValid x) (sym g.left)
+      (is_from_valid (hold_all now g.write.session (record { address = a; epoch = epoch } ∷ []))
+      (hold_all_valid now (valid_from_is now (valid_behind name cs core its valid shard (kind.Mark line least block a) may)) g.write.session (record { address = a; epoch = epoch } ∷ [])
       (λ x n l. elim n [
-        | inl q ↦ subst (λ (z : Held). Reaches t.blocks (rests_on t z.epoch) z.address) (sym q) rests
+        | inl q ↦ subst (λ (z : Held). Reaches now.blocks (rests_on now z.epoch) z.address) (sym q) rests
         | inr k ↦ absurd k
       ])))

@@ -1,8 +1,8 @@
 -- An entry that takes effect: what is told of it is deeds, from the store before it to the one behind it.
-use Rattle.std.proofs.Common.{◌≡◌, ◌∙◌, sym, ap, subst, ◌⊎◌, inl, inr, ℕ, zero, suc, ◌+◌, ◌<◌, ◌≤◌, ◌==◌, Bool, true, false, cond, List, [], ◌∷◌, Option, Some, None, IsSome, refl, arith, slice_get, slice_index, length, map}
+use Rattle.std.proofs.Common.{◌≡◌, ◌∙◌, sym, ap, subst, ◌⊎◌, inl, inr, ℕ, ◌+◌, ◌<◌, ◌≤◌, ◌==◌, Bool, true, false, cond, List, [], ◌∷◌, Option, Some, None, IsSome, refl, arith, slice_get, slice_index, length, map}
 use Rattle.std.proofs.lemmas.Bool.{eq-eqb, eqb-true}
 use Rattle.std.specs.Option.{option_map}
-use Rattle.std.specs.Prelude.{slice_index_or, slice_set}
+use Rattle.std.specs.Prelude.{slice_set}
 use Rattle.hs_standing.specs.Changes.{told_at_once}
 use Rattle.hs_answered.specs.Standing.{store_with}
 use Rattle.hs_answered.specs.Telling.{Judging}
@@ -65,26 +65,17 @@ use Rattle.hs_shard.specs.Clients.{mark_block, store_block}
 use Rattle.hs_shard.specs.Facts.{Catalogue}
 use Rattle.hs_shard.specs.Rounds.{may_enter as memory_may_enter}
 use Rattle.hs_shown.specs.Showing.{as_sessions}
-use Rattle.hs_standing.proofs.LegalEffectLemmas.{Ready}
+use Rattle.hs_standing.proofs.LegalEffectLemmas.{Ready, none_of}
 use Rattle.hs_standing.proofs.LegalStepLemmas.{IsQuiet}
 use Rattle.hs_deeds.proofs.OnLemmas.{answered_on, entered_on, from_folds, has_answer_on, silent_on, swept_on}
 use Rattle.hs_deeds.proofs.StepDeedLemmas.{quiet_deeds}
 use Rattle.hs_model.specs.Deeds.{DeedEntry}
 use Rattle.hs_fold.specs.Runs.Facts.{plain}
 use Rattle.hs_fold.specs.Shards.Catalogue.{Catalogue as Plain}
-use Rattle.std.proofs.lemmas.List.{length-map}
+use Rattle.std.proofs.lemmas.List.{length-map, set-get_or}
 use Rattle.hs_deeds.specs.On.{DeedsOn}
 
 -- ---- plain facts
-
-set_own : {X : Type 0} (none : X) (xs : List X) (k : ℕ) → slice_set xs k (slice_index_or xs k none) ≡ xs
-set_own none [] k = refl
-set_own none (x ∷ xs) zero = refl
-set_own none (x ∷ xs) (suc k) = ap (λ rest. x ∷ rest) (set_own none xs k)
-
-none_of : {A B X : Type 0} (f : A → X) (g : B → X) (a : Option A) (b : Option B) → option_map f a ≡ option_map g b → a ≡ None → b ≡ None
-none_of f g a None e h = refl
-none_of f g a (Some y) e h = absurd (cc (sym (ap (λ x. option_map f x) h) ∙ e))
 
 -- ---- one entry
 
@@ -115,7 +106,7 @@ module _ (Known : List DeedEntry → Type 0) (views : ByViews) (steps : Steps) (
 
     -- where its fold is the same the store is
     same_fold : applied (setting_of by.name core) cs (next_deed shard entry core) ≡ catalogue_at cs shard → store_with (folds_behind by.name cs shard entry core) core.sessions ≡ store_with cs core.sessions
-    same_fold e = ap (λ (ds : List Folded). store_with ds core.sessions) (ap (λ (d : Folded). slice_set cs shard d) e ∙ set_own empty_catalogue cs shard)
+    same_fold e = ap (λ (ds : List Folded). store_with ds core.sessions) (ap (λ (d : Folded). slice_set cs shard d) e ∙ set-get_or cs shard empty_catalogue)
 
     -- where nothing happens nothing need be told
     quietly : happening_by (setting_of by.name core) cs (next_deed shard entry core) ≡ None → DeedsOn Known by.limits cs (folds_behind by.name cs shard entry core) core (taken shard entry core)

@@ -1,59 +1,34 @@
 -- A Mark that gives its block: what its write is told is a deed, whichever bytes the block has.
-use Rattle.std.proofs.Common.{◌≡◌, ◌∙◌, sym, ap, subst, inl, inr, ℕ, ◌+◌, ◌==◌, Bool, true, false, cond, not, ◌&&◌, List, [], ◌∷◌, map, Option, Some, None, is_none, is_some, refl, nat_le, slice_index}
-use Rattle.std.proofs.lemmas.Map.Made.{lookup-map_values}
-use Rattle.std.specs.BTreeMap.{insert_entry, is_at}
-use Rattle.std.specs.Map.{lookup}
+use Rattle.std.proofs.Common.{◌≡◌, ◌∙◌, sym, ap, subst, ℕ, ◌+◌, ◌==◌, Bool, true, false, not, ◌&&◌, List, [], ◌∷◌, map, Option, Some, None, is_none, is_some, refl, nat_le}
+use Rattle.std.specs.BTreeMap.{insert_entry}
 use Rattle.std.specs.Option.{option_map, option_map_or}
-use Rattle.hs_answered.proofs.AnswerLemmas.{hold_is}
 use Rattle.hs_answered.specs.Standing.{IsAddressed, IsFolded, store_with}
 use Rattle.hs_awaiting.specs.declared.waiting.Waiting.{Waiting}
-use Rattle.hs_awaiting.specs.Words.{change_with}
-use Rattle.hs_core_words.specs.Effects.{tell_operation}
 use Rattle.hs_core_words.specs.Looking.{catalogue_of, front_of, group_of, shape_of}
-use Rattle.hs_core_words.specs.Operating.{take_step}
 use Rattle.hs_core_words.specs.Seeing.{view_for}
 use Rattle.hs_core_words.specs.State.{Core}
-use Rattle.hs_desk.specs.declared.what.What.{What}
 use Rattle.hs_desk.specs.declared.what.What.TheVariants as what
-use Rattle.hs_effects.proofs.AnsweredLemmas.{seats_behind}
-use Rattle.hs_effects.proofs.FoldLemmas.{memory_at}
-use Rattle.hs_effects.proofs.FreeLemmas.{own_block}
 use Rattle.hs_effects.proofs.GroupLemmas.{committed_first}
-use Rattle.hs_effects.proofs.MarkLemmas.{IsMarked, marked_tests}
-use Rattle.hs_effects.proofs.SweepLemmas.{ByViews, epoch_before, epoch_left, store_is}
+use Rattle.hs_effects.proofs.SweepLemmas.{ByViews}
 use Rattle.hs_effects.specs.Lawful.{IsLawful, MayFollow}
-use Rattle.hs_effects.specs.Logged.{HasAsked, IsCalled, IsEntryOf, IsOrderly, IsOwn}
+use Rattle.hs_effects.specs.Logged.{HasAsked, IsOrderly, IsOwn}
 use Rattle.hs_effects.specs.Taking.{done_by, folds_behind, next_deed, setting_of, taken}
 use Rattle.hs_entry.specs.declared.entry.Entry.{Entry}
 use Rattle.hs_entry.specs.declared.entry.Entry.TheVariants as kind
 use Rattle.hs_fold.specs.Runs.Facts.{Catalogue as Folded}
-use Rattle.hs_fold.specs.Runs.Facts.{Facts as FoldedFacts}
-use Rattle.hs_fold.specs.Runs.Fits.{catalogue_at}
-use Rattle.hs_fold.specs.Runs.Opened.{store_of}
 use Rattle.hs_fold.specs.Shards.Change.{gives}
-use Rattle.hs_fold.specs.Shards.Happening.{Happening, changes, happen_by, mark_happens}
-use Rattle.hs_joint.specs.Along.{happening_by}
 use Rattle.hs_limits.specs.declared.address.Address.{Address}
 use Rattle.hs_limits.specs.declared.address.Held.{Held}
-use Rattle.hs_limits.specs.declared.limits.Limits.{Limits}
-use Rattle.hs_memory.specs.Forget.{forget, known_of}
 use Rattle.hs_model.specs.declared.op.Op.{Op}
 use Rattle.hs_model.specs.declared.op.Op.TheVariants as op
 use Rattle.hs_model.specs.declared.reply.Reply.{Reply}
 use Rattle.hs_model.specs.declared.reply.Reply.TheVariants as reply
-use Rattle.hs_model.specs.Judge.{given_address}
-use Rattle.hs_model.specs.Store.{Store, address_cmp, epoch_at, hold_all, next_of, with_sessions}
-use Rattle.hs_ops.specs.Answers.{gained, seats_after}
-use Rattle.hs_ops.specs.declared.step.OpStep.{OpStep}
-use Rattle.hs_ops.specs.declared.step.OpStep.TheVariants.{Answer}
-use Rattle.hs_ops.specs.Going.{on_effect}
-use Rattle.hs_ops.specs.Operations.{effect_step}
+use Rattle.hs_model.specs.Store.{Store, address_cmp, epoch_at, hold_all, next_of}
 use Rattle.hs_ops.specs.Speaking.{judging_shard}
 use Rattle.hs_ops.specs.Views.{now_in, open_in}
 use Rattle.hs_replica.specs.Group.{committed}
 use Rattle.hs_shard.specs.declared.facts.Facts.{Facts}
 use Rattle.hs_shard.specs.Facts.{Catalogue, facts_at}
-use Rattle.hs_shown.specs.Showing.{Shows, as_sessions}
 use Rattle.hs_standing.specs.Changes.{told_at_once}
 use Rattle.hs_tokens.specs.Seats.{Seats}
 use Rattle.std.proofs.lemmas.Bool.{eqb-true}
@@ -80,54 +55,15 @@ use Rattle.hs_model.specs.Refusals.{refused_when}
 use Rattle.hs_model.specs.Store.{Session, block_at, blocks_with, session_at}
 use Rattle.hs_ops.specs.Answers.{deed_of}
 use Rattle.hs_ops.specs.Refusals.{refusal_of}
-use Rattle.hs_ops.specs.Speaking.{asked_pointers, helds, least_epoch}
+use Rattle.hs_ops.specs.Speaking.{asked_pointers}
+use Rattle.hs_any_events.proofs.GivenLemmas.{IsGiven, IsWriteAt, given_is}
 use Rattle.hs_ops.specs.Views.{OpView}
 use Rattle.hs_core_words.specs.Seeing.{pointers_for}
 use Rattle.hs_tokens.specs.Seats.{found}
 use Rattle.std.specs.List.{AllByRecursion}
 use Rattle.std.specs.Prelude.{unwrap_or}
 
--- ---- the write of a Mark
-
--- an operation that asks for a Mark writes at its address
-record IsWriteAt (seats : Seats) (least : ℕ) (a : Address) (o : Op) : Type 0 where
-  pub session : List ℕ
-  pub payload : List ℕ
-  pub handles : List ℕ
-  pub is : o ≡ op.Write session payload handles (Some a)
-  pub least_is : least ≡ least_epoch (helds seats session handles)
-
-write_at : (name : List ℕ → Address) (limits : Limits) (seats : Seats) (line least block : ℕ) (a : Address) (o : Op) → IsEntryOf name seats line o (kind.Mark line least block a) → IsCalled name seats o → IsOwn limits seats o → IsWriteAt seats least a o
-write_at name limits seats line least block a (op.Write session payload handles address) asks called own = go asks
-  where
-    go : IsEntryOf name seats line (op.Write session payload handles address) (kind.Mark line least block a) → IsWriteAt seats least a (op.Write session payload handles address)
-    go (inl is) = absurd (cc is.0)
-    go (inr is) =
-        let names = called (own_block limits seats session payload handles address own) in
-        let given : a ≡ given_address address = cc is.1 in
-        record {
-          session = session;
-          payload = payload;
-          handles = handles;
-          is = ap (λ x. op.Write session payload handles x) (names ∙ ap (λ x. Some x) (sym (ap (λ x. given_address x) names)) ∙ ap (λ x. Some x) (sym given));
-          least_is = cc is.1;
-        }
-write_at name limits seats line least block a (op.Root session key handle) asks called own = absurd (cc asks)
-write_at name limits seats line least block a (op.Drop key) asks called own = absurd (cc asks)
-write_at name limits seats line least block a op.Delete asks called own = absurd (cc asks.1)
-write_at name limits seats line least block a (op.Open session) asks called own = absurd asks
-write_at name limits seats line least block a (op.Close session) asks called own = absurd asks
-write_at name limits seats line least block a (op.Read session handle) asks called own = absurd asks
-write_at name limits seats line least block a (op.Look session key) asks called own = absurd asks
-write_at name limits seats line least block a (op.Forget session handle) asks called own = absurd asks
-write_at name limits seats line least block a (op.Name session handle) asks called own = absurd asks
-write_at name limits seats line least block a op.Stat asks called own = absurd asks
-
--- the block of the Mark's entry is there, so that something happens
-gives_there : (block : ℕ) (x : Option FoldedFacts) → option_map_or (λ (f : Facts). f.number == block) (option_map known_of x) false ≡ true → (least : ℕ) (a : Address)
-    → mark_happens (option_map (λ (f : FoldedFacts). f.present) x) least block a ≡ Some (changes (gives least a))
-gives_there block None e least a = absurd (cc e)
-gives_there block (Some f) e least a = ap (λ b. cond b (Some (changes (gives least a))) None) e
+-- ---- its pointers
 
 -- the pointers that the core finds are those of the store's block, as hs_answered has it
 abbrev pub ByPointers : Type 0
@@ -158,83 +94,26 @@ module _ (Known : List DeedEntry → Type 0) (views : ByViews) (shown_pointers :
   abbrev old : Catalogue
   old = catalogue_of shard core
 
-  tests : IsMarked least block a (catalogue_of shard core)
-  tests = marked_tests least block a old did
+  g : IsGiven name cs core shard line least block a
+  g = given_is views name cs core shard number line least block a its order leads may did
 
-  asked : HasAsked name core shard (front_of shard core + 1 + 0) line (kind.Mark line least block a)
-  asked = order.asked shard 0 line entry (committed_first (group_of shard core) number entry leads).first refl
+  abbrev asked : HasAsked name core shard (front_of shard core + 1 + 0) line (kind.Mark line least block a)
+  asked = g.asked
 
   abbrev w : Waiting
-  w = asked.waiting
+  w = g.asked.waiting
 
-  write : IsWriteAt core.sessions least a asked.waiting.operation.op
-  write = write_at name core.limits core.sessions line least block a w.operation.op asked.asks (order.pending line w asked.at).called asked.own
+  abbrev write : IsWriteAt core.sessions least a g.asked.waiting.operation.op
+  write = g.write
 
   abbrev o : Op
-  o = op.Write write.session write.payload write.handles (Some a)
-
-  place : judging_shard (shape_of core).shards core.sessions o ≡ shard
-  place = ap (λ p. judging_shard (shape_of core).shards core.sessions p) (sym write.is) ∙ sym (order.pending line w asked.at).judges ∙ asked.judges
-
-  shows : Shows core.limits s o (view_for shard o core)
-  shows = subst (λ k. Shows core.limits s o (view_for k o core)) place (views cs core o its.folded refl)
-
-  -- ---- epochs
-
-  epoch_is : epoch_at s a ≡ old.epoch
-  epoch_is = ap (λ k. slice_index s.epochs k) (sym shows.judging) ∙ epoch_before views name cs core shard entry its may refl
-
-  now_is : now_in (view_for shard o here) ≡ epoch_at s a
-  now_is = epoch_left views name cs core shard entry its may refl ∙ tests.epoch ∙ sym epoch_is
-
-  -- ---- what was given
-
-  mem : old ≡ forget (shape_of core) shard (catalogue_at cs shard)
-  mem = memory_at name cs core shard entry its.folded may.of
-
-  known : option_map_or (λ (f : Facts). f.number == block) (option_map known_of (lookup (is_at (address_cmp a)) (catalogue_at cs shard).blocks)) false ≡ true
-  known =
-      ap (λ x. option_map_or (λ (f : Facts). f.number == block) x false) (sym (lookup-map_values known_of (is_at (address_cmp a)) (catalogue_at cs shard).blocks))
-      ∙ ap (λ (c : Catalogue). option_map_or (λ (f : Facts). f.number == block) (facts_at a c) false) (sym mem) ∙ tests.there
-
-  happens : happening_by (setting_of name core) cs (next_deed shard entry core) ≡ Some (changes (gives least a))
-  happens =
-      ap (λ x. mark_happens x least block a) (lookup-map_values (λ (f : FoldedFacts). f.present) (is_at (address_cmp a)) (catalogue_at cs shard).blocks)
-      ∙ gives_there block (lookup (is_at (address_cmp a)) (catalogue_at cs shard).blocks) known least a
-
-  behind_is : t ≡ with_sessions (record (store_of cs) { given = insert_entry address_cmp (store_of cs).given a (epoch_at (store_of cs) a) }) (as_sessions core.sessions)
-  behind_is =
-      store_is views name cs core shard entry its may refl
-      ∙ ap (λ (x : Option Happening). with_sessions (happen_by (store_of cs) x) (as_sessions core.sessions)) happens
-      ∙ ap (λ b. with_sessions (cond b (record (store_of cs) { given = insert_entry address_cmp (store_of cs).given a (epoch_at (store_of cs) a) }) (store_of cs)) (as_sessions core.sessions))
-      (ap (λ n. nat_le n (least + 1)) epoch_is ∙ tests.fresh)
-
-  -- ---- what its operation holds
+  o = op.Write g.write.session g.write.payload g.write.handles (Some a)
 
   abbrev held : Held
   held = record { address = a; epoch = epoch_at s a }
 
   abbrev r : Reply
   r = reply.Dup (next_of (open_in (view_for shard o here) write.session)) (now_in (view_for shard o here))
-
-  answers : (p : Op) (k : ℕ) → p ≡ o → k ≡ shard → on_effect (view_for k p here) w.operation.line what.Marked p ≡ Answer r
-  unfolding on_effect
-  answers p k is at =
-      ap (λ (q : Op). on_effect (view_for k q here) w.operation.line what.Marked q) is
-      ∙ ap (λ j. on_effect (view_for j o here) w.operation.line what.Marked o) at
-
-  told_is : told_at_once shard (kind.Mark line least block a) core ≡ take_step line w (Answer r) here
-  told_is =
-      ap (λ (done : What). tell_operation line done here) did
-      ∙ ap (λ (x : Option Waiting). change_with x (λ u. take_step line u (effect_step (view_for u.shard u.operation.op here) what.Marked u.operation)) here) asked.at
-      ∙ ap (λ (step : OpStep). take_step line w step here) (answers w.operation.op w.shard write.is asked.judges)
-
-  seats_are : (take_step line w (Answer r) here).sessions ≡ seats_behind shard o r here
-  seats_are = ap (λ k. seats_behind k w.operation.op r here) asked.judges ∙ ap (λ p. seats_behind shard p r here) write.is
-
-  leaves : store_with behind (seats_behind shard o r here) ≡ hold_all t write.session (held ∷ [])
-  unfolding seats_after gained
-  leaves = hold_is t core.sessions refl write.session (record { address = a; epoch = now_in (view_for shard o here) } ∷ []) ∙ ap (λ n. hold_all t write.session (record { address = a; epoch = n } ∷ [])) now_is
 
   -- ---- what it is told
 
@@ -249,7 +128,7 @@ module _ (Known : List DeedEntry → Type 0) (views : ByViews) (shown_pointers :
   there_is block (Some f) e = (f, refl, eqb-true f.number block e)
 
   known_there : (f : Facts) × (facts_at a (catalogue_of shard core) ≡ Some f) × (f.number ≡ block)
-  known_there = there_is block (facts_at a old) tests.there
+  known_there = there_is block (facts_at a old) g.tests.there
 
   present_is : is_some (view_for shard (op.Write write.session write.payload write.handles (Some a)) core).present ≡ true
   present_is = ap (λ (x : Option Facts). is_some (option_map (λ (f : Facts). f.number) x)) known_there.1
@@ -261,20 +140,20 @@ module _ (Known : List DeedEntry → Type 0) (views : ByViews) (shown_pointers :
   free : refusal_of (view_for shard (op.Write write.session write.payload write.handles (Some a)) core) (op.Write write.session write.payload write.handles (Some a)) ≡ None
   free =
       write_free v write.session write.payload write.handles (Some a) refl own
-      (ap (λ k. nat_le (now_in v) (k + 1)) (sym write.least_is) ∙ ap (λ n. nat_le n (least + 1)) (epoch_seen views name cs core shard entry its may refl) ∙ tests.fresh)
+      (ap (λ k. nat_le (now_in v) (k + 1)) (sym write.least_is) ∙ ap (λ n. nat_le n (least + 1)) (epoch_seen views name cs core shard entry its may refl) ∙ g.tests.fresh)
       (no_room_asked v.present v.room (reply.ShardFull core.limits.blocks) present_is)
 
   stands : StandsFree core.limits (store_with cs core.sessions) write.session write.payload write.handles a
-  stands = free_at core.limits s v write.session write.payload write.handles a shows free
+  stands = free_at core.limits s v write.session write.payload write.handles a g.shows free
 
   there_in_store : is_some (block_at (store_with cs core.sessions) a) ≡ true
-  there_in_store = sym (shows.present a refl) ∙ present_is
+  there_in_store = sym (g.shows.present a refl) ∙ present_is
 
   -- the block that is there points to what its handles stand for
   pointers_there : pointers_at (hollow (store_with cs core.sessions)) a ≡ map (λ handle. address_of (store_with cs core.sessions) write.session handle) write.handles
   pointers_there =
       pointers_hollow s a
-      ∙ sym (subst (λ (k : ℕ). pointers_for k o core ≡ pointers_at s a) place (shown_pointers cs core o a its.folded refl refl))
+      ∙ sym (subst (λ (k : ℕ). pointers_for k o core ≡ pointers_at s a) g.place (shown_pointers cs core o a its.folded refl refl))
       ∙ ap (λ (x : Option Facts). option_map_or (λ (f : Facts). f.pointers) x []) known_there.1
       ∙ points shard 0 line least block a w (committed_first (group_of shard core) number entry leads).first asked.at write.session write.payload write.handles known_there.0 write.is known_there.1 known_there.2
       ∙ each write.handles
@@ -306,7 +185,7 @@ module _ (Known : List DeedEntry → Type 0) (views : ByViews) (shown_pointers :
     present = is_there_hollow s a ∙ there_in_store;
     held = subst (λ (ps : List Address). AllByRecursion (HoldsFresh (hollow s) write.session (epoch_at s a)) ps) (sym pointers_there) (fresh_each (hollow s) write.session (epoch_at s a) write.handles stands.held stands.fresh);
     next = next_is;
-    reply = ap (λ (n : ℕ). reply.Dup (next_of (open_in (view_for shard o here) write.session)) n) now_is;
+    reply = ap (λ (n : ℕ). reply.Dup (next_of (open_in (view_for shard o here) write.session)) n) g.now_is;
   }
 
   -- the store that it leaves
@@ -316,16 +195,16 @@ module _ (Known : List DeedEntry → Type 0) (views : ByViews) (shown_pointers :
 
   left_is : store_with behind (told_at_once shard (kind.Mark line least block a) core).sessions ≡ (wrote (store_with cs core.sessions) write.session a (record { pointers = pointers_at (store_with cs core.sessions) a; bytes = [] })).store
   left_is =
-      ap (λ (c : Core). store_with behind c.sessions) told_is ∙ ap (λ (seats : Seats). store_with behind seats) seats_are ∙ leaves
-      ∙ ap (λ (x : Store). hold_all x write.session (held ∷ [])) behind_is
+      g.left
+      ∙ ap (λ (x : Store). hold_all x write.session (held ∷ [])) g.behind_is
       ∙ ap (λ (es : List (Address × StoredBlock)). hold_all (record s { blocks = es; given = insert_entry address_cmp s.given a (epoch_at s a) }) write.session (held ∷ [])) (sym (with_it (block_at s a) there_in_store s.blocks (record { pointers = pointers_at s a; bytes = [] }) (epoch_at s a)))
 
   pub given_deeds : DeedsOn Known core.limits cs (folds_behind name cs shard (kind.Mark line least block a) core) core (told_at_once shard (kind.Mark line least block a) core)
   given_deeds = record {
     more = mine ∷ [];
-    journal = ap (λ (c : Core). c.journal) told_is;
-    refused = ap (λ (c : Core). c.refused) told_is;
-    told = ap (λ (c : Core). c.entries) told_is;
+    journal = ap (λ (c : Core). c.journal) g.told_is;
+    refused = ap (λ (c : Core). c.refused) g.told_is;
+    told = ap (λ (c : Core). c.entries) g.told_is;
     deeds = λ before k. (
       record { printed = refl; done = subst (λ (d : Deed). IsDeedOf core.limits (hollow s) before d r) (sym deed_is) is_marked },
       tt,

@@ -1,6 +1,5 @@
 -- One step of an operation: what it tells is deeds.
 use Rattle.std.proofs.Common.{◌≡◌, ◌∙◌, sym, ap, subst, ◌⊎◌, inl, inr, ℕ, List, Option, Some, None, refl}
-use Rattle.std.specs.Option.{option_map_or}
 use Rattle.hs_answered.specs.Judged.{IsJudged}
 use Rattle.hs_answered.specs.Standing.{IsFolded, store_with}
 use Rattle.hs_answered.specs.Telling.{Judging}
@@ -12,48 +11,25 @@ use Rattle.hs_core_words.specs.Operating.{resume, take_step}
 use Rattle.hs_core_words.specs.Seeing.{view_for}
 use Rattle.hs_core_words.specs.State.{Core}
 use Rattle.hs_desk.specs.declared.what.What.{What}
-use Rattle.hs_desk.specs.declared.what.What.TheVariants as what
 use Rattle.hs_effects.specs.Logged.{IsOrderly}
 use Rattle.hs_fold.specs.Runs.Facts.{Catalogue as Folded}
 use Rattle.hs_standing.proofs.Laws.{Steps}
 use Rattle.hs_standing.proofs.MuteLemmas.{Books, Stays, Words, step_books, step_stays}
 use Rattle.hs_standing.specs.Commands.{AreCommanded, IsCommanded}
-use Rattle.hs_model.specs.declared.op.Op.{Op}
 use Rattle.hs_model.specs.declared.reply.Reply.{Reply}
 use Rattle.hs_ops.specs.declared.operation.Stage.TheVariants as stage
 use Rattle.hs_ops.specs.declared.step.OpStep.{OpStep}
 use Rattle.hs_ops.specs.declared.step.OpStep.TheVariants.{Answer, Compare, Propose, Wait}
-use Rattle.hs_ops.specs.Going.{go, on_effect}
+use Rattle.hs_ops.specs.Going.{go}
 use Rattle.hs_ops.specs.Operations.{after_step, effect_step, go_step}
 use Rattle.hs_ops.specs.Refusals.{refusal_of}
 use Rattle.hs_ops.specs.Speaking.{judging_shard}
 use Rattle.hs_ops.specs.Views.{OpView}
-use Rattle.hs_standing.proofs.LegalStepLemmas.{IsQuiet, refused_judged}
+use Rattle.hs_standing.proofs.LegalStepLemmas.{IsQuiet, quiet_answer, refused_judged}
 use Rattle.hs_deeds.proofs.OnLemmas.{judged_on, same_on, silent_on}
 use Rattle.hs_model.specs.Deeds.{DeedEntry}
 use Rattle.hs_answered.specs.Standing.{IsAddressed}
 use Rattle.hs_deeds.specs.On.{DeedsOn}
-
--- ---- plain facts
-
-same_answer : (q r : Reply) → Answer q ≡ Answer r → q ≡ r
-same_answer q r e = cc e
-
-quiet_answer : (v : OpView) (line : ℕ) (did : What) (o : Op) (r : Reply) → IsQuiet did → on_effect v line did o ≡ Answer r → (refusal_of v o ≡ Some r) ⊎ (go v line o ≡ Answer r)
-unfolding on_effect
-quiet_answer v line what.Nothing o r quiet e = inr e
-quiet_answer v line (what.Viewed view) o r quiet e = absurd quiet
-quiet_answer v line what.Stored o r quiet e = absurd quiet
-quiet_answer v line what.Marked o r quiet e = absurd quiet
-quiet_answer v line what.Again o r quiet e = inr e
-quiet_answer v line what.Rooted o r quiet e = absurd quiet
-quiet_answer v line what.Dropped o r quiet e = absurd quiet
-quiet_answer v line (what.Entered epoch) o r quiet e = absurd quiet
-quiet_answer v line what.Refused o r quiet e = by_refusal (refusal_of v o) refl e
-  where
-    by_refusal : (x : Option Reply) → refusal_of v o ≡ x → option_map_or Answer x (go v line o) ≡ Answer r → (refusal_of v o ≡ Some r) ⊎ (go v line o ≡ Answer r)
-    by_refusal None f h = inr h
-    by_refusal (Some q) f h = inl (f ∙ ap (λ (x : Reply). Some x) (same_answer q r h))
 
 -- ---- one step
 

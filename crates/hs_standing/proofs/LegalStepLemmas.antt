@@ -35,7 +35,7 @@ use Rattle.hs_ops.specs.Views.{OpView}
 
 -- ---- plain facts
 
-same_answer : (q r : Reply) → Answer q ≡ Answer r → q ≡ r
+pub same_answer : (q r : Reply) → Answer q ≡ Answer r → q ≡ r
 same_answer q r e = cc e
 
 pub refused_judged : (v : OpView) (o : Op) (r : Reply) → refusal_of v o ≡ Some r → judged_in v o ≡ Some r
@@ -54,7 +54,7 @@ IsQuiet what.Dropped = ⊥
 IsQuiet (what.Entered epoch) = ⊥
 IsQuiet what.Refused = Unit {0}
 
-quiet_answer : (v : OpView) (line : ℕ) (did : What) (o : Op) (r : Reply) → IsQuiet did → on_effect v line did o ≡ Answer r → (refusal_of v o ≡ Some r) ⊎ (go v line o ≡ Answer r)
+pub quiet_answer : (v : OpView) (line : ℕ) (did : What) (o : Op) (r : Reply) → IsQuiet did → on_effect v line did o ≡ Answer r → (refusal_of v o ≡ Some r) ⊎ (go v line o ≡ Answer r)
 unfolding on_effect
 quiet_answer v line what.Nothing o r quiet e = inr e
 quiet_answer v line (what.Viewed view) o r quiet e = absurd quiet
