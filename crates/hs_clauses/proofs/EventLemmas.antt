@@ -17,7 +17,6 @@ use Rattle.hs_core_words.specs.Opening.{begin_views, note_down}
 use Rattle.hs_core_words.specs.State.{Core}
 use Rattle.hs_core_words.specs.Step.{begin_event, do_event, end_event, keep_entries, line_of, refuse_entries, run_event, step}
 use Rattle.hs_desk.specs.declared.fault.CoreFault.{CoreFault}
-use Rattle.hs_limits.specs.declared.shape.Shape.{Shape}
 use Rattle.hs_post.specs.Pool.{restart_numbers}
 use Rattle.hs_replica.specs.Group.{renew}
 use Rattle.hs_shard.specs.Facts.{empty_catalogue}

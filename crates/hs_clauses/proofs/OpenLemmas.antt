@@ -1,27 +1,21 @@
 -- As a core opens with lists that are numbered from 1 on, each block is of an entry that took effect.
-use Rattle.std.proofs.Common.{◌≡◌, ◌∙◌, sym, ap, subst, ◌⊎◌, inl, inr, ℕ, ◌+◌, ◌<◌, ◌≤◌, not, List, [], ◌∷◌, arith, length}
+use Rattle.std.proofs.Common.{◌≡◌, ◌∙◌, sym, ap, subst, ◌⊎◌, inl, inr, ℕ, ◌+◌, ◌<◌, ◌≤◌, List, [], ◌∷◌, arith, length}
 use Rattle.std.proofs.lemmas.Bool.{cases_lt}
 use Rattle.std.proofs.lemmas.List.{get_or_past}
 use Rattle.std.proofs.lemmas.List.FromFn.{get_or-map-range_with_len, length-map-range_with_len}
 use Rattle.std.specs.List.{enumerate_from}
-use Rattle.hs_core_words.specs.Changing.{note}
-use Rattle.hs_core_words.specs.Looking.{catalogue_of, front_of, shape_of, shards_of, status_of}
-use Rattle.hs_core_words.specs.Opening.{Taken, begin_views, new_core, note_down, note_if_down, open_core, taken_group}
+use Rattle.hs_core_words.specs.Looking.{catalogue_of, front_of}
+use Rattle.hs_core_words.specs.Opening.{Taken, begin_views, new_core, note_down, open_core, taken_group}
 use Rattle.hs_core_words.specs.State.{Core}
-use Rattle.hs_core_words.specs.Views.{change_view}
 use Rattle.hs_entry.specs.declared.entry.Entry.{Entry}
 use Rattle.hs_entry.specs.Entries.{rank_of}
 use Rattle.hs_events.specs.Found.{Found, first_core, opened_catalogue, opened_list, opens_with}
 use Rattle.hs_events.specs.Sane.{IsFromOne}
 use Rattle.hs_fold.specs.Shards.Setting.{Numbered, Setting}
-use Rattle.hs_journal.specs.declared.entry.Who.TheVariants as who
 use Rattle.hs_limits.specs.declared.address.Address.{Address}
 use Rattle.hs_limits.specs.declared.limits.Limits.{Limits}
 use Rattle.hs_limits.specs.declared.shape.Shape.{Shape}
-use Rattle.hs_members.specs.Members.{all_peers, is_good_status}
 use Rattle.hs_memory.specs.Forget.{apply_all, named}
-use Rattle.hs_model.specs.declared.deed.Deed.TheVariants as deed
-use Rattle.hs_model.specs.declared.reply.Reply.TheVariants as reply
 use Rattle.hs_moments.proofs.WorkLemmas.{last_is}
 use Rattle.hs_replica.specs.Group.{Group, new_group}
 use Rattle.hs_shard.specs.Apply.{apply}

@@ -1,5 +1,5 @@
 -- Along a story the core is ready, behind opening and behind its lines.
-use Rattle.std.proofs.Common.{◌≡◌, ◌∙◌, ap, sym, subst, ℕ, Bool, true, false, List, [], None, refl, arith}
+use Rattle.std.proofs.Common.{◌≡◌, ◌∙◌, ap, sym, subst, ℕ, Bool, true, false, List, [], None, arith}
 use Rattle.std.specs.Prelude.{flat_map}
 use Rattle.hs_answered.specs.Standing.{store_with}
 use Rattle.hs_answered.specs.Telling.{Judging}

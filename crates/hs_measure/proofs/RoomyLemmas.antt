@@ -12,7 +12,7 @@ use Rattle.hs_desk.specs.declared.fault.CoreFault.{CoreFault}
 use Rattle.hs_events.specs.Course.{steps}
 use Rattle.hs_events.specs.Due.{Events}
 use Rattle.hs_moments.proofs.AloneEventLemmas.{begun, step_is}
-use Rattle.hs_post.specs.Pool.{Pool, is_empty, restart_numbers}
+use Rattle.hs_post.specs.Pool.{is_empty, restart_numbers}
 use Rattle.hs_standing.proofs.LinesStepLemmas.{step_ended}
 
 pub record Roomy (a b : Core) : Type 0 where
