@@ -83,25 +83,25 @@ handed y h = go (committed y)
 
 -- ---- strokes
 
+plain_lists : (g : ℕ) (a b : Core) → HasSameLists a b → Plain g a b
+plain_lists g a b same h = subst ArePlain (sym (same.waiting g)) h
+
+plain_offered : {e : Option Event} (a : Core) (x : ℕ) (entry : Entry) → IsOffered e a x entry → is_of_base entry ≡ false
+plain_offered {e = e} a x entry (FromStep c line was w by at waits here one) = (plain_taken e c line was _ by).1
+plain_offered a x entry (FromDue due) = refl
+plain_offered a x entry (FromRound from epoch round total deltas new) = refl
+plain_offered a x entry FromView = refl
+
 module _ {s : Core} {e : Option Event} (g : ℕ) where
-  plain_lists : (a b : Core) → HasSameLists a b → Plain g a b
-  plain_lists a b same h = subst ArePlain (sym (same.waiting g)) h
-
-  plain_offered : (a : Core) (x : ℕ) (entry : Entry) → IsOffered e a x entry → is_of_base entry ≡ false
-  plain_offered a x entry (FromStep c line was w by at waits here one) = (plain_taken e c line was _ by).1
-  plain_offered a x entry (FromDue due) = refl
-  plain_offered a x entry (FromRound from epoch round total deltas new) = refl
-  plain_offered a x entry FromView = refl
-
   plain_still : (a b : Core) → Still s e a b → Plain g a b
-  plain_still a b (Besides x) h = plain_lists a b (lists_aside x) h
+  plain_still a b (Besides x) h = plain_lists g a b (lists_aside x) h
   plain_still a b (Proposes x entry offered) h = plain_proposes g x entry a (plain_offered a x entry offered) h
   plain_still a b (Reads line number w at waits) h = plain_reads g (lead_of w.shard a) number line a h
-  plain_still a b (SendsAgain back x peer known) h = plain_lists a b (lists_round back x a) h
+  plain_still a b (SendsAgain back x peer known) h = plain_lists g a b (lists_round back x a) h
   plain_still a b (Leaves peer known) h = h
   plain_still a b (TurnsGood peer) h = h
-  plain_still a b (BeginsAgain x) h = plain_lists a b (lists_joining (joining_peers x a) a) h
-  plain_still a b (Follows x) h = plain_lists a b (lists_follow x a) h
+  plain_still a b (BeginsAgain x) h = plain_lists g a b (lists_joining (joining_peers x a) a) h
+  plain_still a b (Follows x) h = plain_lists g a b (lists_follow x a) h
 
   plain_stroke : (a b : Core) → Stroke s e a b → Plain g a b
   plain_stroke a b (IsStill x) h = plain_still a b x h
