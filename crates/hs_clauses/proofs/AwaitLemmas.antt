@@ -40,7 +40,7 @@ use Rattle.hs_ops.specs.Answers.{gained, seats_after}
 use Rattle.hs_ops.specs.declared.step.OpStep.{OpStep}
 use Rattle.hs_ops.specs.declared.step.OpStep.TheVariants.{Answer, Compare, Propose}
 use Rattle.hs_ops.specs.declared.step.OpStep.TheVariants as step
-use Rattle.hs_ops.specs.Going.{go, judged_in}
+use Rattle.hs_ops.specs.Going.{judged_in}
 use Rattle.hs_ops.specs.Operations.{Operation, after_step, go_step, new_operation}
 use Rattle.hs_ops.specs.Speaking.{judging_shard, wanted_address}
 use Rattle.hs_ops.specs.Views.{OpView}

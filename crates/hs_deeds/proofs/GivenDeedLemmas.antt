@@ -16,7 +16,6 @@ use Rattle.hs_effects.specs.Taking.{done_by, folds_behind, next_deed, setting_of
 use Rattle.hs_entry.specs.declared.entry.Entry.{Entry}
 use Rattle.hs_entry.specs.declared.entry.Entry.TheVariants as kind
 use Rattle.hs_fold.specs.Runs.Facts.{Catalogue as Folded}
-use Rattle.hs_fold.specs.Shards.Change.{gives}
 use Rattle.hs_limits.specs.declared.address.Address.{Address}
 use Rattle.hs_limits.specs.declared.address.Held.{Held}
 use Rattle.hs_model.specs.declared.op.Op.{Op}

@@ -1,5 +1,5 @@
 -- Along events a core that has ended is asked nothing, and a sane store of one copy a shard knows its copies.
-use Rattle.std.proofs.Common.{◌≡◌, ◌∙◌, sym, subst, ◌*◌, [], ◌∷◌, Option, Some, None, refl}
+use Rattle.std.proofs.Common.{◌≡◌, ◌∙◌, sym, subst, [], ◌∷◌, Option, Some, None, refl}
 use Rattle.hs_core_words.specs.State.{Core}
 use Rattle.hs_core_words.specs.Step.{step}
 use Rattle.hs_desk.specs.declared.fault.CoreFault.{CoreFault}

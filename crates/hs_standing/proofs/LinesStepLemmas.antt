@@ -1,5 +1,5 @@
 -- The last line of a core after an event, and cores that have ended.
-use Rattle.std.proofs.Common.{◌≡◌, ◌⊎◌, inl, inr, ◌∙◌, ap, sym, ℕ, ◌+◌, ◌≤◌, ◌==◌, false, Option, Some, None, refl, is_none, arith}
+use Rattle.std.proofs.Common.{◌≡◌, ◌⊎◌, inl, inr, ◌∙◌, ap, sym, ℕ, ◌≤◌, ◌==◌, false, Option, Some, None, refl, is_none, arith}
 use Rattle.std.proofs.lemmas.Bool.{cases_eq}
 use Rattle.std.proofs.lemmas.Bool.Decides.{nat_tests}
 use Rattle.std.specs.Prelude.{if◌then◌else◌}

@@ -18,7 +18,7 @@ use Rattle.hs_core_words.specs.declared.task.Task.{Task}
 use Rattle.hs_core_words.specs.Looking.{first_job, group_of, sealed_of, status_of, tasks_of}
 use Rattle.hs_core_words.specs.State.{Core}
 use Rattle.hs_core_words.specs.Step.{step}
-use Rattle.hs_desk.specs.Answers.{answers, is_reclaim}
+use Rattle.hs_desk.specs.Answers.{is_reclaim}
 use Rattle.hs_desk.specs.declared.done.Done.{Done}
 use Rattle.hs_desk.specs.declared.done.Done.TheVariants as done
 use Rattle.hs_desk.specs.declared.job.Job.{Job}
