@@ -22,7 +22,7 @@ use Rattle.hs_core_words.specs.Looking.{first_job, first_task, group_of, home, l
 use Rattle.hs_core_words.specs.Operating.{propose_entry}
 use Rattle.hs_core_words.specs.Reporting.{take_copied, take_emptied, take_report, take_sealed}
 use Rattle.hs_core_words.specs.State.{Core}
-use Rattle.hs_core_words.specs.Step.{do_event}
+use Rattle.hs_core_words.specs.Step.{do_event, line_of}
 use Rattle.hs_desk.specs.Answers.{answers, is_seal_of}
 use Rattle.hs_desk.specs.declared.done.Done.{Done}
 use Rattle.hs_desk.specs.declared.done.Done.TheVariants as done
