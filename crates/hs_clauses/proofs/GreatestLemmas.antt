@@ -69,7 +69,7 @@ not_true : (b : Bool) → not b ≡ true → b ≡ false
 not_true true e = cc e
 not_true false e = refl
 
-not_false : (b : Bool) → not b ≡ false → b ≡ true
+pub not_false : (b : Bool) → not b ≡ false → b ≡ true
 not_false true e = refl
 not_false false e = cc e
 
@@ -147,7 +147,7 @@ module _ (shape : Shape) (logs : List (Option Numbered)) (count : length logs �
   top_is = chosen_of_shard shape.shards shard shape.copies (or_blank logs) low
 
   -- none is above it
-  below_top : (peer : ℕ) → start ≤ peer → peer < start + shape.copies → outranks (rank_of (list_by peer)) (rank_of top) ≡ false
+  pub below_top : (peer : ℕ) → start ≤ peer → peer < start + shape.copies → outranks (rank_of (list_by peer)) (rank_of top) ≡ false
   below_top peer from to =
       let back : start + (peer - start) ≡ peer = omega (arith, from) in
       let w = within in

@@ -1,6 +1,6 @@
 -- What a journal is where no disk failed.
 use Rattle.std.specs.List.{AllByRecursion}
-use Rattle.std.specs.Prelude.{All, List, ℕ, ◌++◌, ◌≡◌}
+use Rattle.std.specs.Prelude.{All, List, ℕ, ◌≡◌}
 use Rattle.hs_journal.specs.declared.entry.JournalEntry.{JournalEntry}
 use Rattle.hs_journal.specs.declared.entry.Who.TheVariants as who
 use Rattle.hs_model.specs.Store.{Store}
@@ -16,10 +16,6 @@ IsNotAlone entry = entry.who ≡ who.Shard 0 → entry.deed ≡ deed.Entered 0 �
 -- so it is with each: shard 0 enters by `delete` lines alone
 abbrev pub AreLed : List JournalEntry → Type 0
 AreLed entries = AllByRecursion IsNotAlone entries
-
--- a run with what found its journal full
-abbrev pub whole_of : Ran → Ran
-whole_of r = record r { journal = r.journal ++ r.refused }
 
 -- a journal is answered from a store on, its deletions are told as promised, each of its entries stands for something, and shard 0 is led by lines
 pub record IsCalm (S : Script) (entry : Store) (last : ℕ) (r : Ran) : Type 0 where

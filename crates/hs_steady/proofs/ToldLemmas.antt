@@ -1,5 +1,5 @@
 -- What the log of a peer has behind an event, and what waits there.
-use Rattle.std.proofs.Common.{◌≡◌, ◌≢◌, ◌∙◌, ap, sym, subst, refl, inl, inr, ℕ, ◌+◌, ◌-◌, ◌≤◌, true, false, List, [], ◌∷◌, ◌++◌, Some, None, flat_map, length, arith}
+use Rattle.std.proofs.Common.{◌≡◌, ◌≢◌, ◌∙◌, ap, sym, subst, refl, inl, inr, ℕ, ◌+◌, ◌≤◌, true, false, List, [], ◌∷◌, ◌++◌, Some, None, flat_map, length, arith}
 use Rattle.std.proofs.lemmas.List.{length-append, length-drop, take-append-le, take_at}
 use Rattle.std.specs.Prelude.{drop, take}
 use Rattle.hs_cluster.proofs.HeldLemmas.{append_is, read_is, seal_is}
