@@ -106,7 +106,7 @@ module _ (start : Start) (core : Core) (cs : List Folded) (its : RunStands start
   }
 
 -- no line was begun as it opens
-none_begun : (core : Core) → IsInTurn (λ n. None) core → (line : ℕ) (w : Waiting) → operation_of line core ≡ Some w → ⊥
+pub none_begun : (core : Core) → IsInTurn (λ n. None) core → (line : ℕ) (w : Waiting) → operation_of line core ≡ Some w → ⊥
 none_begun core turn line w at = cc (turn.turns.asked line w.operation.op (ap (λ (y : Option Waiting). option_map (λ (u : Waiting). u.operation.op) y) at)).named
 
 -- ---- one event
@@ -139,7 +139,7 @@ line_rises (event.Nudge line peer) core next = omega arith
 line_rises (event.Fail line peer) core next = omega arith
 line_rises (event.Start line peer) core next = omega arith
 
-line_more : (code : Code) (limits : Limits) (c : Core) → Steady code limits c → (e : Event) → IsNextLine c e → IsCodedSteady code limits (last_line_after e c) c
+pub line_more : (code : Code) (limits : Limits) (c : Core) → Steady code limits c → (e : Event) → IsNextLine c e → IsCodedSteady code limits (last_line_after e c) c
 line_more code limits c s e next = record {
   coded = s.coded;
   beside = s.beside;
@@ -147,7 +147,7 @@ line_more code limits c s e next = record {
 }
 
 -- what each report may tell
-any_report : (peer : ℕ) (d : Done) (core : Core) → MayReport (λ number bytes w c. Unit {0}) peer d core
+pub any_report : (peer : ℕ) (d : Done) (core : Core) → MayReport (λ number bytes w c. Unit {0}) peer d core
 any_report peer (done.Stored number) core = tt
 any_report peer (done.Sealed number) core = tt
 any_report peer (done.Bytes number bytes) core = λ w r. tt
@@ -163,7 +163,7 @@ IsWithin code addresses = (a : Address) → Member a addresses → Member a code
 
 module _ (code : Code) (limits : Limits) (core : Core) (its : Steady code limits core) where
   -- a line above the last one is new
-  new_line : (line : ℕ) → core.progress.last_line < line → operation_of line core ≡ None
+  pub new_line : (line : ℕ) → core.progress.last_line < line → operation_of line core ≡ None
   new_line line up = coded_new code limits core.progress.last_line core its line (by_operation (operation_of line its.coded) refl)
     where
       by_operation : (x : Option Waiting) → operation_of line its.coded ≡ x → operation_of line its.coded ≡ None
@@ -223,32 +223,32 @@ module _ (below : LawsBelow) (set : Setting) (found : Found) (cs : List Folded) 
   abbrev opens : Core
   opens = first_core set found
 
-  turn_of : IsInTurn (λ line. None) (first_core set found)
+  pub turn_of : IsInTurn (λ line. None) (first_core set found)
   turn_of = opened_turn (λ line. None) set.shape set.limits (opens_with set found) found.opened refl
 
-  its_of : (after : List Folded) × RunStands start_of (first_core set found) after
+  pub its_of : (after : List Folded) × RunStands start_of (first_core set found) after
   its_of = opened below.views below.steps below.laws (any_lines set) names set.shape (opens_with set found) found.opened cs may
 
-  valid_of : IsValid (store_with cs [])
+  pub valid_of : IsValid (store_with cs [])
   valid_of = folds_valid set.name (new_core set.shape set.limits (opens_with set found) found.opened) cs may.lawful
 
   -- payloads tell the addresses that these events bring
-  abbrev code_of : Events → Code
+  abbrev pub code_of : Events → Code
   code_of es = code_for start_of opens its_of.0 its_of.1 valid_of (none_begun opens turn_of) es
 
   given_of : (es : Events) → GivesAddresses (coded_name (code_of es))
   given_of es = coded_gives (code_of es) names (table_whole es)
 
+  pub first_of : (table : Events) → Steady (code_of table) set.limits (first_core set found)
+  first_of table = stands_coded start_of opens its_of.0 its_of.1 valid_of (none_begun opens turn_of) table
+
   -- behind events whose addresses are among them it is steady
   behind_of : (table es : Events) → AllComeOn ComesNext opens es → IsWithin (code_of table) (table_of es) → Steady (code_of table) set.limits (steps opens es)
   behind_of table es come within = go opens.ended refl
     where
-      first_of : Steady (code_of table) set.limits opens
-      first_of = stands_coded start_of opens its_of.0 its_of.1 valid_of (none_begun opens turn_of) table
-
       go : (o : Option CoreFault) → opens.ended ≡ o → Steady (code_of table) set.limits (steps opens es)
-      go (Some fault) over = subst (λ (x : Core). Steady (code_of table) set.limits x) (sym (steps_ended opens es fault over)) first_of
-      go None going = all_steady below (code_of table) (given_of table) set.limits es opens (turn_of.going going) turn_of.told (all_within (code_of table) es opens come within) first_of
+      go (Some fault) over = subst (λ (x : Core). Steady (code_of table) set.limits x) (sym (steps_ended opens es fault over)) (first_of table)
+      go None going = all_steady below (code_of table) (given_of table) set.limits es opens (turn_of.going going) turn_of.told (all_within (code_of table) es opens come within) (first_of table)
 
   module _ (laws : CountLaws) (zeros : ZerosBehind) where
     pub copies_right : (es : Events) → AllComeOn ComesNext opens es → (n : ℕ) → AreCountedRight (steps opens (take n es))

@@ -1,17 +1,13 @@
 -- What a core tells from its opening on is deeds, whatever events come.
-use Rattle.std.proofs.Common.{◌≡◌, ◌∙◌, sym, ap, subst, ℕ, ◌++◌, List, [], ◌∷◌, map, Option, Some, None, refl, arith, append_assoc}
+use Rattle.std.proofs.Common.{◌≡◌, ◌∙◌, sym, ap, subst, ℕ, ◌++◌, List, [], ◌∷◌, map, Option, Some, None, refl, append_assoc}
 use Rattle.std.specs.Option.{option_map}
 use Rattle.hs_answered.specs.Standing.{store_with}
 use Rattle.hs_any_events.proofs.AlongLemmas.{LawsBelow, code_for}
-use Rattle.hs_any_events.proofs.CodedHistoryLemmas.{base_is_above, base_of}
 use Rattle.hs_any_events.proofs.CodedLemmas.{Code, coded_gives, coded_name}
-use Rattle.hs_any_events.proofs.CodedOpeningLemmas.{beside_itself, steady_coded}
+use Rattle.hs_any_events.proofs.AlongLemmas.{code_of as opened_code, first_of}
 use Rattle.hs_any_events.proofs.CodedTableLemmas.{table_of, table_whole, brought_by}
 use Rattle.hs_any_events.proofs.CodedWalkLemmas.{IsCodedSteady}
-use Rattle.hs_any_events.proofs.SteadyLemmas.{IsSteady}
 use Rattle.hs_any_events.specs.Events.{ComesNext, any_lines}
-use Rattle.hs_awaiting.specs.declared.waiting.Waiting.{Waiting}
-use Rattle.hs_core_words.specs.Looking.{operation_of}
 use Rattle.hs_core_words.specs.Opening.{new_core}
 use Rattle.hs_core_words.specs.State.{Core}
 use Rattle.hs_core_words.specs.Step.{step}
@@ -33,7 +29,6 @@ use Rattle.hs_fold.specs.Shards.Setting.{Setting}
 use Rattle.hs_journal.specs.declared.entry.JournalEntry.{JournalEntry}
 use Rattle.hs_journal.specs.Deeds.{as_deed}
 use Rattle.hs_journal.specs.Events.{client_op}
-use Rattle.hs_laws.specs.Valid.{IsValid}
 use Rattle.hs_limits.specs.declared.address.Address.{Address}
 use Rattle.hs_limits.specs.declared.limits.Limits.{Limits}
 use Rattle.hs_model.proofs.Members.{Member, member-append_left, member-append_right}
@@ -42,54 +37,12 @@ use Rattle.hs_model.specs.Deeds.{AreDeeds, DeedEntry, deed_store}
 use Rattle.hs_model.specs.Hollow.{hollow}
 use Rattle.hs_model.specs.Store.{Store}
 use Rattle.hs_standing.proofs.AlongWalkLemmas.{steps_over}
-use Rattle.hs_standing.proofs.LegalOpenLemmas.{folds_valid, opened}
-use Rattle.hs_standing.proofs.ValidLemmas.{told_valid}
 use Rattle.hs_standing.specs.Copies.{AllComeOn}
 use Rattle.hs_standing.specs.Held.{GivesAddresses}
 use Rattle.hs_standing.specs.Opens.{MayOpen}
-use Rattle.hs_standing.specs.Run.{RunStands}
-use Rattle.hs_standing.specs.Standing.{judging_of}
-use Rattle.hs_standing.specs.Start.{Start}
-use Rattle.hs_standing.specs.Telling.{told_so_far}
 use Rattle.hs_told.proofs.OpenedLemmas.{opened_turn}
 use Rattle.hs_told.proofs.OrderLemmas.{step_turn}
 use Rattle.hs_told.specs.InTurn.{AllMayCome, IsInTurn, MayBegin}
-
--- ---- as a core opens
-
-module _ (start : Start) (core : Core) (cs : List Folded) (its : RunStands start core cs) (valid : IsValid start.entry) (idle : (line : ℕ) (w : Waiting) → operation_of line core ≡ Some w → ⊥) where
-  abbrev nobody : ℕ → Option Command
-  nobody n = None
-
-  abbrev stands_steady : IsSteady start.set.name start.set.limits core.progress.last_line core cs
-  stands_steady = record {
-    commands = nobody;
-    none_above = λ line up. refl;
-    limited = its.limits;
-    orderly = its.orderly;
-    lawful = its.lawful;
-    sent = its.sent;
-    resting = its.resting;
-    stored = its.stored;
-    addressed = its.addressed;
-    commanded = λ line w at. absurd (idle line w at);
-    epochs = its.epochs;
-    valid = told_valid (judging_of start) start.entry (told_so_far core) (store_with cs core.sessions) valid its.tells;
-  }
-
-  stands_coded : (events : Events) → IsCodedSteady (code_for start core cs its valid idle events) start.set.limits core.progress.last_line core
-  stands_coded events = record {
-    coded = core;
-    beside = beside_itself (code_for start core cs its valid idle events) core idle;
-    steady = (
-      cs,
-      steady_coded (code_for start core cs its valid idle events) core idle start.set.limits core.progress.last_line cs stands_steady
-          (base_is_above its.lawful.lawful.history (base_of its.lawful.lawful.history) (omega arith)),
-    );
-  }
-
-none_begun : (core : Core) → IsInTurn (λ n. None) core → (line : ℕ) (w : Waiting) → operation_of line core ≡ Some w → ⊥
-none_begun core turn line w at = cc (turn.turns.asked line w.operation.op (ap (λ (y : Option Waiting). option_map (λ (u : Waiting). u.operation.op) y) at)).named
 
 -- ---- along events
 
@@ -151,26 +104,14 @@ told_deeds limits start c its =
 
 module _ (below : LawsBelow) (shown : ByPointers) (set : Setting) (found : Found) (cs : List Folded) (names : GivesAddresses set.name) (may : MayOpen (any_lines set) set.shape (opens_with set found) found.opened cs)
     (commands : ℕ → Option Command) (none : client_op (commands 0) ≡ None) where
-  abbrev start_of : Start
-  start_of = record { set = set; commands = λ line. None; entry = store_with cs [] }
-
   abbrev opens : Core
   opens = first_core set found
 
   abbrev new : Core
   new = new_core set.shape set.limits (opens_with set found) found.opened
 
-  its_of : (after : List Folded) × RunStands start_of (first_core set found) after
-  its_of = opened below.views below.steps below.laws (any_lines set) names set.shape (opens_with set found) found.opened cs may
-
-  valid_of : IsValid (store_with cs [])
-  valid_of = folds_valid set.name (new_core set.shape set.limits (opens_with set found) found.opened) cs may.lawful
-
-  idle_of : (line : ℕ) (w : Waiting) → operation_of line (first_core set found) ≡ Some w → ⊥
-  idle_of = none_begun opens (opened_turn (λ line. None) set.shape set.limits (opens_with set found) found.opened refl)
-
   abbrev code_of : Events → Code
-  code_of es = code_for start_of (first_core set found) its_of.0 its_of.1 valid_of idle_of es
+  code_of es = opened_code below set found cs names may es
 
   telling : IsOpenTelling set.limits (bare_store (new_core set.shape set.limits (opens_with set found) found.opened)) (first_core set found)
   telling = opens_telling set.shape set.limits (opens_with set found) found.opened
@@ -178,7 +119,7 @@ module _ (below : LawsBelow) (shown : ByPointers) (set : Setting) (found : Found
   first_tells : (es : Events) → GoesOnTelling (code_of es) set.limits (bare_store (new_core set.shape set.limits (opens_with set found) found.opened)) commands (first_core set found)
   first_tells es = record {
     turn = opened_turn commands set.shape set.limits (opens_with set found) found.opened none;
-    tells = record { its = stands_coded start_of opens its_of.0 its_of.1 valid_of idle_of es; points = telling.points; told = λ clean. telling.told };
+    tells = record { its = first_of below set found cs names may es; points = telling.points; told = λ clean. telling.told };
   }
 
   pub history_told : (es : Events) → AreClients commands → AllComeOn ComesNext (first_core set found) es → AllKeepTurn commands (first_core set found) es

@@ -1,29 +1,25 @@
 -- Behind each of any events that come, a core's journal is one of deeds, where it was one before.
-use Rattle.std.proofs.Common.{◌≡◌, sym, ap, subst, ℕ, suc, ◌==◌, ◌<◌, ◌≤◌, ◌||◌, Bool, true, false, List, [], ◌∷◌, map, Option, Some, None, is_some, refl, arith, not, append-nil, ◌∙◌, ◌++◌}
+use Rattle.std.proofs.Common.{◌≡◌, sym, ap, subst, ℕ, suc, ◌==◌, ◌<◌, ◌||◌, Bool, true, false, List, [], ◌∷◌, map, Option, None, is_some, refl, arith, not, append-nil, ◌∙◌, ◌++◌}
 use Rattle.std.proofs.lemmas.Bool.Decides.{nat_tests}
 use Rattle.std.specs.List.{list_any}
 use Rattle.std.specs.Option.{option_map, option_map_or}
+use Rattle.hs_any_events.proofs.AlongLemmas.{any_report, line_more as steady_more, new_line}
 use Rattle.hs_any_events.proofs.BytesLemmas.{ReadsAnyBytes}
 use Rattle.hs_any_events.proofs.CodedLemmas.{Code, coded_name}
 use Rattle.hs_any_events.proofs.CodedTableLemmas.{brought_by, is_tabled}
-use Rattle.hs_any_events.proofs.CodedWalkLemmas.{coded_new}
-use Rattle.hs_any_events.proofs.SteadyLemmas.{IsSteady}
 use Rattle.hs_any_events.specs.Events.{ComesNext, LineBringsAddress}
 use Rattle.hs_awaiting.specs.declared.waiting.Waiting.{Waiting}
-use Rattle.hs_core_words.specs.Calls.{IsNextLine, last_line_after}
+use Rattle.hs_core_words.specs.Calls.{last_line_after}
 use Rattle.hs_core_words.specs.declared.event.Event.{Event}
 use Rattle.hs_core_words.specs.declared.event.Event.TheVariants as event
-use Rattle.hs_core_words.specs.Looking.{operation_of, shape_of}
+use Rattle.hs_core_words.specs.Looking.{shape_of}
 use Rattle.hs_core_words.specs.State.{Core}
 use Rattle.hs_core_words.specs.Step.{step}
 use Rattle.hs_deeds.proofs.GivenDeedLemmas.{ByPointers}
 use Rattle.hs_deeds.proofs.WalkLemmas.{IsClean, MayComeHere, TellsDeeds, is_others, views_tell, walks_tell}
 use Rattle.hs_deeds.specs.History.{AreClients, HasTold, deeds_of}
 use Rattle.hs_deeds.specs.On.{AreUnanswered}
-use Rattle.hs_desk.specs.declared.done.Done.{Done}
-use Rattle.hs_desk.specs.declared.done.Done.TheVariants as done
 use Rattle.hs_effects.proofs.SweepLemmas.{ByViews}
-use Rattle.hs_fold.specs.Runs.Facts.{Catalogue as Folded}
 use Rattle.hs_journal.specs.declared.entry.JournalEntry.{JournalEntry}
 use Rattle.hs_journal.specs.declared.entry.Who.{Who}
 use Rattle.hs_journal.specs.declared.entry.Who.TheVariants as who
@@ -42,7 +38,7 @@ use Rattle.hs_standing.proofs.AlongWalkLemmas.{copies_step}
 use Rattle.hs_standing.proofs.Laws.{Entries, Steps}
 use Rattle.hs_standing.specs.Copies.{ComesOn}
 use Rattle.hs_standing.specs.Held.{GivesAddresses}
-use Rattle.hs_standing.specs.Walks.{MayEvent, MayReport}
+use Rattle.hs_standing.specs.Walks.{MayEvent}
 use Rattle.hs_told.specs.InTurn.{IsInTurn}
 
 -- ---- lines
@@ -122,45 +118,6 @@ has_told code limits start commands c clients its =
     (subst (λ (es : List JournalEntry). IsClean (clients_of commands) (map as_deed es)) (sym (ap (λ (es : List JournalEntry). (c.journal ++ c.refused) ++ es) its.turn.told ∙ append-nil (c.journal ++ c.refused)))
     (all_clean (clients_of commands) (c.journal ++ c.refused) (λ i n of. clients n (its.turn.turns.ordered.named i n of))))
 
--- ---- the last line goes up
-
-more_lines : (name : List ℕ → Address) (limits : Limits) (last next : ℕ) (core : Core) (cs : List Folded) → last ≤ next → IsSteady name limits last core cs → IsSteady name limits next core cs
-more_lines name limits last next core cs up its = record {
-  commands = its.commands;
-  none_above = λ line above. its.none_above line (omega (arith, up, above));
-  limited = its.limited;
-  orderly = its.orderly;
-  lawful = its.lawful;
-  sent = its.sent;
-  resting = its.resting;
-  stored = its.stored;
-  addressed = its.addressed;
-  commanded = its.commanded;
-  epochs = its.epochs;
-  valid = its.valid;
-}
-
-line_rises : (e : Event) (core : Core) → IsNextLine core e → core.progress.last_line ≤ last_line_after e core
-line_rises (event.Line line o) core next = let up : core.progress.last_line < line = next in omega (arith, up)
-line_rises (event.Report peer d) core next = omega arith
-line_rises (event.Turn line peer) core next = omega arith
-line_rises (event.Deliver line number) core next = omega arith
-line_rises (event.Lose line number) core next = omega arith
-line_rises (event.Repeat line number) core next = omega arith
-line_rises (event.Nudge line peer) core next = omega arith
-line_rises (event.Fail line peer) core next = omega arith
-line_rises (event.Start line peer) core next = omega arith
-
-any_report : (peer : ℕ) (d : Done) (core : Core) → MayReport (λ number bytes w c. Unit {0}) peer d core
-any_report peer (done.Stored number) core = tt
-any_report peer (done.Sealed number) core = tt
-any_report peer (done.Bytes number bytes) core = λ w r. tt
-any_report peer (done.Gone number) core = λ w r. tt
-any_report peer done.Emptied core = tt
-any_report peer (done.Copied number) core = tt
-any_report peer (done.Stepped switched) core = tt
-any_report peer (done.Failed disk) core = tt
-
 -- ---- one event
 
 module _ (views : ByViews) (shown : ByPointers) (steps : Steps) (reads : ReadsAnyBytes) (laws : Entries) (code : Code) (names : GivesAddresses (coded_name code)) (limits : Limits) (start : Store) (commands : ℕ → Option Command) where
@@ -168,17 +125,6 @@ module _ (views : ByViews) (shown : ByPointers) (steps : Steps) (reads : ReadsAn
   Goes c = GoesOnTelling code limits start commands c
 
   module _ (core : Core) (its : GoesOnTelling code limits start commands core) where
-    -- a line above the last one is new
-    new_line : (line : ℕ) → core.progress.last_line < line → operation_of line core ≡ None
-    new_line line up = coded_new code limits core.progress.last_line core its.tells.its line (by_operation (operation_of line its.tells.its.coded) refl)
-      where
-        by_operation : (x : Option Waiting) → operation_of line its.tells.its.coded ≡ x → operation_of line its.tells.its.coded ≡ None
-        by_operation None at = at
-        by_operation (Some w) at =
-            let says = (its.tells.its.steady.1.commanded line w at).says in
-            let none : None ≡ Some says.said = sym (its.tells.its.steady.1.none_above line up) ∙ says.asks in
-            absurd (cc none)
-
     none_of : (line : ℕ) → client_op (commands line) ≡ None → clients_of commands line ≡ false
     none_of line none = ap (λ (x : Option Op). is_some x) none
 
@@ -187,7 +133,7 @@ module _ (views : ByViews) (shown : ByPointers) (steps : Steps) (reads : ReadsAn
         let up : core.progress.last_line < line = comes.next.next in
         let given : LineBringsAddress (event.Line line o) core = comes.next.given in
         record {
-          tabled = record { new = new_line line up; counted = omega (arith, up); until = omega arith; tabled = is_tabled code core.sessions o comes.within given };
+          tabled = record { new = new_line code limits core its.tells.its line up; counted = omega (arith, up); until = omega arith; tabled = is_tabled code core.sessions o comes.within given };
           unanswered = none_answered commands core its.turn;
         }
     may_event (event.Report peer d) comes = any_report peer d core
@@ -201,11 +147,7 @@ module _ (views : ByViews) (shown : ByPointers) (steps : Steps) (reads : ReadsAn
 
     line_more : (e : Event) → ComesThere code commands e core → TellsDeeds code limits (last_line_after e core) start (clients_of commands) core
     line_more e comes = record {
-      its = record {
-        coded = its.tells.its.coded;
-        beside = its.tells.its.beside;
-        steady = (its.tells.its.steady.0, more_lines (coded_name code) limits core.progress.last_line (last_line_after e core) its.tells.its.coded its.tells.its.steady.0 (line_rises e core comes.next.next) its.tells.its.steady.1);
-      };
+      its = steady_more code limits core its.tells.its e comes.next.next;
       points = its.tells.points;
       told = its.tells.told;
     }
