@@ -44,6 +44,12 @@ use Rattle.hs_top.specs.Rest.{EndsAtRest}
 abbrev pub StopsOfCopies : Type 0
 StopsOfCopies = (S : Script) (r : Ran) → IsShownByMoments S r → KeepsHeaders S r → MayStop S r → KeepsCopies S r → Stops S (entry_store S r) r
 
+rows : (n k w : ℕ) → k < n → k * w + w ≤ n * w
+rows n k w low = grind (arith, low)
+
+product : (a b : ℕ) → 0 < a → 1 ≤ b → 0 < a * b
+product a b one two = grind (arith, one, two)
+
 module _ (laws : StopsOfCopies) (tells : Type 0) (S : Script) (r : Ran) (names : GivesAddresses S.set.name) (cluster : IsOfCluster tells S r) (told : tells) (may : MayStop S r) (keeps : KeepsCopies S r) (ends : EndsAtRest S r) where
   left_count : length r.new.disks ≡ peer_count S.set.shape
   left_count = cluster.served.handed_back ∙ cluster.count
@@ -53,10 +59,6 @@ module _ (laws : StopsOfCopies) (tells : Type 0) (S : Script) (r : Ran) (names :
 
   some_peer : 0 < peer_count S.set.shape
   some_peer = product S.set.shape.shards S.set.shape.copies (some_shard S.set.shape.shards cluster.shape.shards) cluster.shape.some_copy
-    where
-      product : (a b : ℕ) → 0 < a → 1 ≤ b → 0 < a * b
-      product a b one two = grind (arith, one, two)
-
 
   -- no call is ahead
   called_by : (how : Option Story) → WentAs S r how → IfSome how (HasReadDisks S r) → IfSome how (RunsOnDisks tells S r) → IfSome how (HasItsEnd S r) → (peer : ℕ) → peer < peer_count S.set.shape → (disk_at r.new.disks peer).last ≤ r.new.moment
@@ -133,7 +135,7 @@ module _ (laws : StopsOfCopies) (tells : Type 0) (S : Script) (r : Ran) (names :
     shards = λ shard low. (
       0,
       (let some = cluster.shape.some_copy in omega (arith, some)),
-      good (peer_of S.set.shape shard 0) (let n = left_count in let row = rows S.set.shape.shards shard S.set.shape.copies low cluster.shape.some_copy in omega (arith, n, row)),
+      good (peer_of S.set.shape shard 0) (let n = left_count in let row = rows S.set.shape.shards shard S.set.shape.copies low in let some = cluster.shape.some_copy in omega (arith, n, row, some)),
     );
     others = λ peer low. inl (left peer low);
     aside = λ peer is was. elim (cases_lt peer (length r.new.disks)) [
@@ -141,9 +143,6 @@ module _ (laws : StopsOfCopies) (tells : Type 0) (S : Script) (r : Ran) (names :
       | inr high ↦ subst (λ (image : Image). IsBlank image) (sym (get_or_past images peer (λ side. []) (let n = length-map r.new.disks (λ (disk : Standing). disk.seen) in omega (arith, n, high)))) (λ side. refl)
     ];
   }
-    where
-      rows : (n k w : ℕ) → k < n → 1 ≤ w → k * w + 0 < n * w
-      rows n k w low some = grind (arith, low, some)
 
   pub sound : AreSoundAlong S.set (taken_lists S.set.shape (image_logs images))
   sound =

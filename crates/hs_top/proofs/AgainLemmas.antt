@@ -127,15 +127,12 @@ module _ (laws : StopsAlong) (tells : Type 0) (S : Script) (r : Ran) (one : S.se
       (record { above = ends.above; up_to = ends.up_to; early = ends.early }) images all_good).sound
 
   module _ (limits : Limits) (commands : ℕ → Option Command) (next : Ran) (follows : Follows r next) where
-    abbrev after : Script
-    after = script_after S limits commands
-
-    pub again_may : ((peer : ℕ) → peer < length next.old.disks → is_aside after next peer ≡ false) → MayStop after next
+    pub again_may : ((peer : ℕ) → peer < length next.old.disks → is_aside (script_after S limits commands) next peer ≡ false) → MayStop (script_after S limits commands) next
     again_may none =
         may_from S r ends called limits commands next follows
-        (stopped_sound after next images (sound_too S.set limits (taken_lists S.set.shape (image_logs images)) sound) (seen_after S r ends called limits commands next follows) (same_count S r ends called limits commands next follows) none)
+        (stopped_sound (script_after S limits commands) next images (sound_too S.set limits (taken_lists S.set.shape (image_logs images)) sound) (seen_after S r ends called limits commands next follows) (same_count S r ends called limits commands next follows) none)
 
-    pub again_alone : S.set.shape.shards ≡ 1 → AreSoundAlong after.set (replicate S.set.shape.shards []) → MayStop after next
+    pub again_alone : S.set.shape.shards ≡ 1 → AreSoundAlong after.set (replicate S.set.shape.shards []) → MayStop (script_after S limits commands) next
     again_alone shards blank =
         may_from S r ends called limits commands next follows
-        (alone_sound after next images shards one blank (sound_too S.set limits (taken_lists S.set.shape (image_logs images)) sound) (seen_after S r ends called limits commands next follows) (same_count S r ends called limits commands next follows))
+        (alone_sound (script_after S limits commands) next images shards one blank (sound_too S.set limits (taken_lists S.set.shape (image_logs images)) sound) (seen_after S r ends called limits commands next follows) (same_count S r ends called limits commands next follows))

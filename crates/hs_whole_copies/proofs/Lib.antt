@@ -7,6 +7,7 @@ pub mod FollowLemmas
 pub mod LineageLemmas
 pub mod OpenLemmas
 pub mod PlainLemmas
+pub mod RankLemmas
 pub mod ReachLemmas
 pub mod ReportedLemmas
 pub mod StoodLemmas
