@@ -315,9 +315,9 @@ module _ (S : Script) (r : Ran) (story : Story) (went : Went S r story) (shape :
             subst (λ (items : List CourseItem). AllByRecursion (λ i. is_good_of q i ≡ false) items) (sym rows_are)
             (rows_other (λ k. peer_in S story.found shape there k) (λ k. number_in S story.found shape there k) r.old.moment q 0 S.set.shape.shards
             (λ j from to same. (
-              let at : home_of S.set.shape q ≡ j = ap (home_of S.set.shape) (sym same) ∙ home_in S story.found shape there j (omega (arith, to)) in
-              differs (sym same ∙ ap (λ k. peer_in S story.found shape there k) (sym at ∙ home) ∙ own_peer)
-              )))
+            let at : home_of S.set.shape q ≡ j = ap (home_of S.set.shape) (sym same) ∙ home_in S story.found shape there j (omega (arith, to)) in
+            differs (sym same ∙ ap (λ k. peer_in S story.found shape there k) (sym at ∙ home) ∙ own_peer)
+            )))
 
         by : (q ≡ p) ⊎ (q ≢ p) → good_from (good_from false taken_first (2 ^ 64) q) bads (2 ^ 64) q ≡ false
         by (inl same) = subst (λ k. good_from (good_from false taken_first (2 ^ 64) k) bads (2 ^ 64) k ≡ false) (sym same) (lost_gone (2 ^ 64) p early low taken bad (good_from false taken_first (2 ^ 64) p))

@@ -167,9 +167,9 @@ module _ (S : Script) (r : Ran) (story : Story) (went : Went S r story) (on : Ha
       none_waits =
           ap (λ (ls : List Numbered). pending S.set (taken_below (counted_course S r) m) 0 ls) whole
           ∙ none_pending S.set (taken_below (counted_course S r) m) lists 0 S.set.shape.shards (λ g from low. (
-            let less : g < S.set.shape.shards = omega (arith, low) in
-            (took g less ∙ last-length (taken_list S.set.shape story.found.logs g) (numbered g less), numbered g less)
-            ))
+          let less : g < S.set.shape.shards = omega (arith, low) in
+          (took g less ∙ last-length (taken_list S.set.shape story.found.logs g) (numbered g less), numbered g less)
+          ))
 
   -- ---- a disk that counts has a log, which was read, and a stop at entry leaves that alone
 

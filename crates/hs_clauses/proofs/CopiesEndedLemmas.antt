@@ -87,7 +87,7 @@ above_blank list numbered = elim (above_or_least (rank_of list)) [
       let count = last-length list numbered in
       let zero_number : (rank_of list).number ≡ 0 = ap (λ (rank : Rank). rank.number) least in
       inr (sym (no_entries list (omega (arith, count, zero_number))))
-    )
+      )
 ]
 
 one_counts : (lists : List Numbered) (top : Numbered) (i : ℕ) → IsNumbered top → i < length lists → get_or lists i [] ≡ top → ((j : ℕ) → j < length lists → (get_or lists j [] ≡ top) ⊎ (get_or lists j [] ≡ [])) → chosen lists ≡ top
@@ -288,12 +288,15 @@ module _ (S : Script) (r : Ran) (story : Story) (on : HasItsDisks S r) (left_cou
     where
       one : (s : ℕ) (o : Option ℕ) → taken_peer S.set.shape story.found.logs s ≡ o → AllByRecursion (λ i. is_good_of p i ≡ false) (items_for S.set.shape story.found.logs r.old.moment s o)
       one s None e = tt
-      one s (Some x) e = (ne_eqb x p (λ same. (
-        let home : home_of S.set.shape p ≡ s = ap (home_of S.set.shape) (sym same) ∙ taken_home S.set.shape story.found.logs s x e in
-        let taken : is_taken S.set.shape story.found.logs p ≡ true =
-        ap (λ g. option_map_or (λ q. q == p) (taken_peer S.set.shape story.found.logs g) false) home ∙ ap (λ (o : Option ℕ). option_map_or (λ q. q == p) o false) e ∙ eq-eqb x p same in
-        false≢true (sym untaken ∙ taken)
-        )), (refl, tt))
+      one s (Some x) e = (
+        ne_eqb x p (λ same. (
+            let home : home_of S.set.shape p ≡ s = ap (home_of S.set.shape) (sym same) ∙ taken_home S.set.shape story.found.logs s x e in
+            let taken : is_taken S.set.shape story.found.logs p ≡ true =
+            ap (λ g. option_map_or (λ q. q == p) (taken_peer S.set.shape story.found.logs g) false) home ∙ ap (λ (o : Option ℕ). option_map_or (λ q. q == p) o false) e ∙ eq-eqb x p same in
+            false≢true (sym untaken ∙ taken)
+            )),
+        (refl, tt),
+      )
 
   module _ (m p : ℕ) where
     -- a peer that was good is that of a taken log, or was good as the core opened, and then from then on
@@ -366,7 +369,7 @@ module _ (S : Script) (r : Ran) (story : Story) (on : HasItsDisks S r) (left_cou
       | inl same ↦ (
           let only : LeavesOnly (disk_at r.old.disks p) own_log.0 = λ stood stands. may.one p taken_aside stood stands.sides ∙ sym same ∙ own_log.1 in
           subst (λ (o : Option Numbered). IsSome o) (sym ((shown.ended is_over p low own_log.0 only m during).taken taken image left)) refl
-        )
+          )
       | inr failed ↦ (let wrong : None ≡ Some own_log.0 = sym failed.0 ∙ own_log.1 in absurd (cc wrong))
     ]
 
@@ -398,7 +401,7 @@ module _ (S : Script) (r : Ran) (story : Story) (on : HasItsDisks S r) (left_cou
           | inr opened ↦ (
               let log = some_there (slice_index_or story.found.logs p None) (shown.told.went.found.kept p opened.0) in
               taken_there S.set.shape story.found.logs shown.told.went.found.logs g low p log.0 (omega arith) to log.1
-            )
+              )
         ]
 
     leaves : (p : ℕ) → p < peer_count S.set.shape → (own : Numbered) → LeavesOnly (disk_at r.old.disks p) own → LeavesAt S r story p own m

@@ -27,7 +27,6 @@ effect_by c shard (Some lead) = take (front_of shard c.core) (c.lists lead)
 abbrev pub in_effect : Whole → ℕ → Numbered
 in_effect c shard = effect_by c shard (lead_of shard c.core)
 
-
 -- a peer has sealed all of that, and no other entry of such a number
 pub record HasEffect (c : Whole) (peer : ℕ) : Type 0 where
   pub begins : IsFrontOf peer (in_effect c (home peer c.core)) (sealed_front c peer)

@@ -27,13 +27,13 @@ ClientsAre P s = (n : ℕ) (o : Op) → client_op (s.commands n) ≡ Some o → 
 one_more : {tells : Type 0} (P : Op → Type 0) (old new : Shown tells) (o : Op) (told : Reply) → HasAsked old new o told → P o → ClientsAre P old → ClientsAre P new
 one_more P old new o told h p all n q asks = elim (cases_eq n h.line) [
   | inl same ↦ (
-    let is : o ≡ q = (let both : Some o ≡ Some q = sym h.asks ∙ (ap (λ (k : ℕ). client_op (new.commands k)) (sym same) ∙ asks) in cc both) in
-    (subst (λ (journal : List JournalEntry). HasLine n journal) (sym h.journal) (has_right n old.journal (h.front ++ h.entry ∷ h.back) (has_right n h.front (h.entry ∷ h.back) (inl (h.of_line ∙ ap (λ (k : ℕ). who.Line k) (sym same))))), subst P is p)
-  )
+      let is : o ≡ q = (let both : Some o ≡ Some q = sym h.asks ∙ (ap (λ (k : ℕ). client_op (new.commands k)) (sym same) ∙ asks) in cc both) in
+      (subst (λ (journal : List JournalEntry). HasLine n journal) (sym h.journal) (has_right n old.journal (h.front ++ h.entry ∷ h.back) (has_right n h.front (h.entry ∷ h.back) (inl (h.of_line ∙ ap (λ (k : ℕ). who.Line k) (sym same))))), subst P is p)
+      )
   | inr differs ↦ (
-    let before = all n q (sym (h.others n differs) ∙ asks) in
-    (subst (λ (journal : List JournalEntry). HasLine n journal) (sym h.journal) (has_left n old.journal (h.front ++ h.entry ∷ h.back) before.0), before.1)
-  )
+      let before = all n q (sym (h.others n differs) ∙ asks) in
+      (subst (λ (journal : List JournalEntry). HasLine n journal) (sym h.journal) (has_left n old.journal (h.front ++ h.entry ∷ h.back) before.0), before.1)
+      )
 ]
 
 pub done_clients : {tells : Type 0} (P : Op → Type 0) (start now : Shown tells) (ops : List Op) → AllByRecursion P ops → AreDone start now ops → ClientsAre P start → ClientsAre P now

@@ -148,11 +148,11 @@ parts m [] ys rises = inl refl
 parts m (x ∷ xs) ys rises = elim (cases_lt x.moment m) [
   | inl early ↦ go_early (lt-ltb x.moment m early) (parts m xs ys rises.1)
   | inr late ↦ (
-    let is : nat_lt x.moment m ≡ false = lt-false x.moment m late in
-    let behind = later m x.moment (xs ++ ys) late rises.0 in
-    let mine : below m (x ∷ xs) ≡ [] = rw is (none_below m xs (all_left (λ (y : JournalEntry). m ≤ y.moment) xs ys behind)) in
-    inr (x ∷ xs, ap (λ (es : List JournalEntry). es ++ x ∷ xs) (sym mine), none_below m ys (all_right (λ (y : JournalEntry). m ≤ y.moment) xs ys behind))
-  )
+      let is : nat_lt x.moment m ≡ false = lt-false x.moment m late in
+      let behind = later m x.moment (xs ++ ys) late rises.0 in
+      let mine : below m (x ∷ xs) ≡ [] = rw is (none_below m xs (all_left (λ (y : JournalEntry). m ≤ y.moment) xs ys behind)) in
+      inr (x ∷ xs, ap (λ (es : List JournalEntry). es ++ x ∷ xs) (sym mine), none_below m ys (all_right (λ (y : JournalEntry). m ≤ y.moment) xs ys behind))
+      )
 ]
   where
     go_early : nat_lt x.moment m ≡ true → Parts m xs ys → Parts m (x ∷ xs) ys

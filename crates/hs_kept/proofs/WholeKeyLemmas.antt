@@ -338,10 +338,10 @@ module _ (name : List ℕ → Address) (limits : Limits) (commands : ℕ → Opt
         where_waiting : IsValid (reborn u) → IsKeptWhole (reborn u)
         where_waiting valid = elim (parts_at commands m told more ordered) [
           | inl is ↦ (
-            let one = goes_behind is in
-            let holds : held_at s our_session handle ≡ Some poised.held = one.held our_session handle ∙ poised.holds in
-            finish_behind valid one (goes_pending (answered_behind is) (λ held address taken puts n. root_puts holds held address taken puts) distinct_then)
-          )
+              let one = goes_behind is in
+              let holds : held_at s our_session handle ≡ Some poised.held = one.held our_session handle ∙ poised.holds in
+              finish_behind valid one (goes_pending (answered_behind is) (λ held address taken puts n. root_puts holds held address taken puts) distinct_then)
+              )
           | inr z ↦ finish_z z.0 z.1 valid
         ]
 
