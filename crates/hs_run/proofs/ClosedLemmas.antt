@@ -42,7 +42,7 @@ use Rattle.hs_taking.specs.Shares.{Span as Taking}
 use Rattle.hs_taking.specs.Spared.{SparesDisks}
 use Rattle.hs_taking.specs.Viewed.{IsFirstOther as IsFirst, IsOnlyRead}
 use Rattle.hs_run.specs.Ended.{ran_at}
-use Rattle.hs_run.specs.Machine.{AreHanded, IsOfCluster, LeavesShards}
+use Rattle.hs_run.specs.Machine.{AreHanded, IsOfCluster, IsRunThrough, LeavesShards}
 use Rattle.hs_run.specs.Served.{HasCauses, PrintsText, Served}
 use Rattle.hs_run.specs.Stopping.{of_cluster, status_of}
 use Rattle.hs_run.proofs.CaseLemmas.{if_any}
@@ -349,3 +349,7 @@ module _ (tells : Type 0) (set : Setting) (span : Taking) (fault : ClusterFault)
       served = closed_served;
     },
   )
+
+  -- and no line was gone past
+  pub closed_through : (commands : ℕ → Option Command) × IsRunThrough tells (record { set = set; commands = commands }) r
+  closed_through = (closed_hub.0, record { machine = closed_hub.1; rests = λ past. absurd (closed_past tells set span.old span.new fault closed past) })

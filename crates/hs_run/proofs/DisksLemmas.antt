@@ -15,7 +15,8 @@ use Rattle.hs_events.specs.Reports.{TellsOf, failures}
 use Rattle.hs_events.specs.Taken.{peer_count}
 use Rattle.hs_events.specs.Whole.{Whole, floor, open_whole, reach, step_whole}
 use Rattle.hs_fold.specs.Shards.Setting.{Setting}
-use Rattle.hs_ports.specs.Disk.{Standing}
+use Rattle.hs_ports.specs.declared.disk.Side.{Side}
+use Rattle.hs_ports.specs.Disk.{IsImage, Standing}
 use Rattle.hs_ports.specs.Fault.{HasRisen}
 use Rattle.hs_ports.specs.Moments.{disk_at}
 use Rattle.hs_ports.specs.Objects.{KeepsPast, Objects, RoseBy, faults_at}
@@ -25,7 +26,7 @@ use Rattle.hs_promise.specs.Run.{Ran, Script}
 use Rattle.hs_promise.specs.Story.{Story, all_events}
 use Rattle.hs_side.specs.Current.{list_in}
 use Rattle.hs_taking.specs.Past.{PastStays}
-use Rattle.hs_run.specs.Machine.{AreHanded, RunsOnDisks}
+use Rattle.hs_run.specs.Machine.{AreAmongLeft, AreHanded, RunsOnDisks}
 
 -- ---- the disks that were handed
 
@@ -48,6 +49,12 @@ module _ (objects : Objects) (disks : List DiskSeen) (handed : AreHanded objects
 
   pub disk_is : disk_at objects.disks k ≡ (seen_at disks k).stands
   disk_is = ap (λ (stands : List Standing). disk_at stands k) (sym handed.stands) ∙ stands_at disks k
+
+-- what each reads as is among what a crash leaves of it
+pub among_of : {A : Type 0} (g : A → Standing × ℕ) (xs : List A) → ((x : A) (side : Side) → IsImage ((g x).0.loose side) ((g x).0.seen side)) → AreAmongLeft (map (λ (d : Standing × ℕ). d.0) (map g xs))
+among_of g [] h k side = record { no_shorter = omega arith; no_longer = omega arith; kept = λ i low out. refl }
+among_of g (x ∷ xs) h zero side = h x side
+among_of g (x ∷ xs) h (suc k) side = among_of g xs h k side
 
 -- ---- counts
 

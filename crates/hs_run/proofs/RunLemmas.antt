@@ -40,7 +40,7 @@ use Rattle.hs_run.specs.declared.stop.Stop.TheVariants as stop
 use Rattle.hs_run.specs.Causes.{EndsBy, StopCause}
 use Rattle.hs_run.specs.Ended.{ran_at, refused_in}
 use Rattle.hs_run.specs.Going.{AreRead, Begun, Between, HasRun, IsBetween, IsOpened, IsPrinted, IsPutSoFar, Opened, Unopened, Within, core_behind, script_by, span_to, story_of}
-use Rattle.hs_run.specs.Machine.{AreHanded, HasItsEnd, RunsOnDisks}
+use Rattle.hs_run.specs.Machine.{AreAmongLeft, AreHanded, HasItsEnd, MayGoOn, RunsOnDisks}
 use Rattle.hs_run.specs.OneLine.{IsOpeningPut, Printing, RunsCommand, Stretch}
 use Rattle.hs_run.specs.Puts.{Puts}
 use Rattle.hs_run.specs.Served.{HasCauses, PrintsText}
@@ -125,12 +125,13 @@ pub record IsOfStory (tells : Type 0) (S : Script) (r : Ran) : Type 0 where
   pub story : Story
   pub went : Went S r story
   pub runs : RunsOnDisks tells S r story
+  pub rests : (ending_of r.ending).past ≡ true → MayGoOn tells S r story
   pub ended : HasItsEnd S r story
   pub calm : PassesCalmly S r
   pub nobody : S.commands 0 ≡ None
 
 module _ (tells : Type 0) (name : List ℕ → Address) (did : Result ⊤ ClusterFault) (b : Begun) (part : Stretch) (new : Objects) (named : b.set.name ≡ name) (opened : IsOpened tells b did part.old)
-    (now : part.new.now ≡ new.moment) (got : part.new.got ≡ new.got) (was : AreHanded b.old b.disks) (is : AreHanded new part.new.disks) where
+    (now : part.new.now ≡ new.moment) (got : part.new.got ≡ new.got) (was : AreHanded b.old b.disks) (is : AreHanded new part.new.disks) (among : tells → AreAmongLeft new.disks) where
   abbrev whole_span : Running → Span
   whole_span last = record { before = b.old.moment; now = part.new.now; old = b.first; new = last; disks = b.disks; left = part.new.disks }
 
@@ -171,6 +172,8 @@ module _ (tells : Type 0) (name : List ℕ → Address) (did : Result ⊤ Cluste
               (found (chosen b.old.left []) (status_of part.result part.new.line) part.new.line (Some part.old.cluster) [] part.old.cluster shown)
               (paid_by tells b.set (whole_span part.old.cluster) b.found (all_events (story_of b [])) b.old new was is shown));
           runs = on_disks (chosen b.old.left []) (status_of part.result part.new.line) part.new.line (Some part.new.cluster) [] part.old.cluster (λ told. subst (λ (d : List DiskSeen). Since (stands_of d)) (sym left) (opened.since told)) shown;
+          rests = λ past. absurd (within_past part.result part.new.line
+              (opening_within did part.old.cluster (record { before = part.old.now; now = part.new.now; old = part.old.got; new = part.new.got }) part.result opened.outcome cut put) past);
           ended = record {
             written = λ is front es there. absurd (snoc_some front es there);
             answered = λ is none.
@@ -192,6 +195,7 @@ module _ (tells : Type 0) (name : List ℕ → Address) (did : Result ⊤ Cluste
           (found (chosen b.old.left so_far.read) (status_of part.result part.new.line) part.new.line (Some part.new.cluster) so_far.lines part.new.cluster so_far.shows.shown) (plain_between part.result part.new.line stops)
           (paid_by tells b.set (span_to b part.new) b.found (all_events (story_of b so_far.lines)) b.old new was is so_far.shows.shown);
       runs = on_disks (chosen b.old.left so_far.read) (status_of part.result part.new.line) part.new.line (Some part.new.cluster) so_far.lines part.new.cluster so_far.shows.since so_far.shows.shown;
+      rests = λ past. record { span = span_to b part.new; before = refl; old = was; new = is; may = so_far.shows.may; among = among };
       ended = record {
         written = λ is. absurd (between_write part.result part.new.line stops is);
         answered = λ is. absurd (between_write part.result part.new.line stops is);
@@ -212,6 +216,7 @@ module _ (tells : Type 0) (name : List ℕ → Address) (did : Result ⊤ Cluste
               (found (chosen b.old.left (read ++ line ∷ [])) (status_of part.result part.new.line) part.new.line (Some part.new.cluster) (lines ++ runs.runs.events ∷ []) part.new.cluster shown)
               (paid_by tells b.set (span_to b part.new) b.found (all_events (story_of b (lines ++ runs.runs.events ∷ []))) b.old new was is shown);
           runs = on_disks (chosen b.old.left (read ++ line ∷ [])) (status_of part.result part.new.line) part.new.line (Some part.new.cluster) (lines ++ runs.runs.events ∷ []) part.new.cluster runs.since shown;
+          rests = λ past. absurd (within_past part.result part.new.line (within_of tells name asked (record { old = at; new = part.new; result = part.result }) cut runs) past);
           ended = record {
             written = λ is front es there.
                 let failed : runs.put ≡ Err stop.WriteFault = put_failed runs.did runs.put part.new.line (ap (λ (r : Result ⊤ Stop). status_of r part.new.line) (sym runs.ended) ∙ is) in

@@ -33,7 +33,7 @@ use Rattle.hs_run.specs.Between.{IsReadyAt, Point}
 use Rattle.hs_run.specs.Causes.{EndsBy, StopCause}
 use Rattle.hs_run.specs.Ended.{course_in, journal_in, ran_at, refused_in}
 use Rattle.hs_run.specs.Going.{Begun, Between, HasRun, IsBehind, IsOpened, Opened, StartsAt, Unopened, Within, story_of}
-use Rattle.hs_run.specs.Machine.{AreHanded, IsOfCluster}
+use Rattle.hs_run.specs.Machine.{AreAmongLeft, AreHanded, IsRunThrough}
 use Rattle.hs_run.specs.OneLine.{Stretch}
 use Rattle.hs_run.specs.Served.{Served}
 use Rattle.hs_run.specs.Stopping.{status_of}
@@ -100,7 +100,7 @@ module _ (tells : Type 0) (set : Setting) (span : Span) (running : Running) (did
       (subst (λ (n : ℕ). IsReadyAt tells (record at { cluster = running; now = n })) (sym now) h)
 
   module _ (old new : Objects) (part : Stretch) (same : part.old.cluster ≡ running) (begun : part.old.now ≡ span.now) (left : part.old.disks ≡ span.new) (since : tells → Since (stands_of part.old.disks)) (entry : old.moment ≡ span.before) (was_got : part.old.got ≡ old.got)
-      (now : part.new.now ≡ new.moment) (got : part.new.got ≡ new.got) (was : AreHanded old span.old) (is : AreHanded new part.new.disks) (shape : IsShape set.shape) (disks : length span.old ≡ set.shape.shards * set.shape.copies) (handed : length old.disks ≡ length span.old)
+      (now : part.new.now ≡ new.moment) (got : part.new.got ≡ new.got) (was : AreHanded old span.old) (is : AreHanded new part.new.disks) (among : tells → AreAmongLeft new.disks) (shape : IsShape set.shape) (disks : length span.old ≡ set.shape.shards * set.shape.copies) (handed : length old.disks ≡ length span.old)
       (runs : (b : Begun) → StartsAt tells b set.name did part.old → HasRun tells set.name did b old.left new.left part) where
     abbrev b : Begun
     b = record { set = set; old = old; disks = span.old; found = opens.found; first = opens.begun; opening = opens.events }
@@ -164,27 +164,30 @@ module _ (tells : Type 0) (set : Setting) (span : Span) (running : Running) (did
         no_shape peer found is = run_shape tells set.name did b old.left new.left part peer found opened.outcome ran is
 
     pub whole_hub : (ending : Status) → ending ≡ status_of part.result part.new.line → length new.disks ≡ length old.disks → StopCause old.source_faults new.source_faults old.sink_faults new.sink_faults part.result
-        → IfSome old.left (λ told. EndsBy told new.left part.result part.new.line) → (commands : ℕ → Option Command) × IsOfCluster tells (record { set = set; commands = commands }) (ran_at ending part.new.line (Some part.new.cluster) old new)
+        → IfSome old.left (λ told. EndsBy told new.left part.result part.new.line) → (commands : ℕ → Option Command) × IsRunThrough tells (record { set = set; commands = commands }) (ran_at ending part.new.line (Some part.new.cluster) old new)
     whole_hub ending ends_so handed_back cause ends =
-        let m = story_run tells set.name did b part new refl opened now got was is ran in
-        subst (λ (s : Status). (commands : ℕ → Option Command) × IsOfCluster tells (record { set = set; commands = commands }) (ran_at s part.new.line (Some part.new.cluster) old new)) (sym ends_so) (
+        let m = story_run tells set.name did b part new refl opened now got was is among ran in
+        subst (λ (s : Status). (commands : ℕ → Option Command) × IsRunThrough tells (record { set = set; commands = commands }) (ran_at s part.new.line (Some part.new.cluster) old new)) (sym ends_so) (
           m.0,
           record {
-            shape = shape;
-            count = handed ∙ disks;
-            script = m.1.script;
-            nobody = m.1.nobody;
-            how = Some m.1.story;
-            went = m.1.went;
-            told = λ told. record {
-              read = read_as tells (record { set = set; commands = m.0 }) (ran_at (status_of part.result part.new.line) part.new.line (Some part.new.cluster) old new) m.1.story m.1.runs told;
-              told = λ one. told_as tells (record { set = set; commands = m.0 }) (ran_at (status_of part.result part.new.line) part.new.line (Some part.new.cluster) old new) m.1.story m.1.runs one told;
+            machine = record {
+              shape = shape;
+              count = handed ∙ disks;
+              script = m.1.script;
+              nobody = m.1.nobody;
+              how = Some m.1.story;
+              went = m.1.went;
+              told = λ told. record {
+                read = read_as tells (record { set = set; commands = m.0 }) (ran_at (status_of part.result part.new.line) part.new.line (Some part.new.cluster) old new) m.1.story m.1.runs told;
+                told = λ one. told_as tells (record { set = set; commands = m.0 }) (ran_at (status_of part.result part.new.line) part.new.line (Some part.new.cluster) old new) m.1.story m.1.runs one told;
+              };
+              runs = m.1.runs;
+              ended = m.1.ended;
+              unopened = λ one none. absurd (some_none m.1.story none);
+              closed = λ none. absurd (some_none m.1.story none);
+              served = whole_served m.0 m.1 handed_back cause ends;
             };
-            runs = m.1.runs;
-            ended = m.1.ended;
-            unopened = λ one none. absurd (some_none m.1.story none);
-            closed = λ none. absurd (some_none m.1.story none);
-            served = whole_served m.0 m.1 handed_back cause ends;
+            rests = m.1.rests;
           },
         )
       where

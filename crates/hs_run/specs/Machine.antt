@@ -2,7 +2,7 @@
 use Rattle.std.specs.Prelude.{IfSome, IsSome, List, None, Option, [], length, map, true, ℕ, ◌++◌, ◌+◌, ◌<◌, ◌∷◌, ◌≡◌}
 use Rattle.hs_cluster.specs.Disks.{DiskSeen, stands_of}
 use Rattle.hs_cluster.specs.Kept.{AreStored, Span}
-use Rattle.hs_cluster.specs.RunsOn.{RunsOn}
+use Rattle.hs_cluster.specs.RunsOn.{CanRunOn, RunsOn}
 use Rattle.hs_cluster.specs.Unopened.{LeavesAsTaken}
 use Rattle.hs_events.specs.Due.{Events}
 use Rattle.hs_events.specs.Found.{first_core}
@@ -12,8 +12,12 @@ use Rattle.hs_events.specs.Whole.{open_whole}
 use Rattle.hs_limits.specs.declared.shape.Shape.{Shape}
 use Rattle.hs_limits.specs.Shape.{IsShape}
 use Rattle.hs_moments.specs.Moments.{Since}
+use Rattle.hs_ports.specs.declared.disk.Side.{Side}
+use Rattle.hs_ports.specs.Disk.{IsImage, Standing}
+use Rattle.hs_ports.specs.Moments.{disk_at}
 use Rattle.hs_ports.specs.Objects.{Objects}
 use Rattle.hs_promise.specs.declared.status.Status.TheVariants as status
+use Rattle.hs_promise.specs.Ending.{ending_of}
 use Rattle.hs_promise.specs.Found.{IsReadAs}
 use Rattle.hs_promise.specs.Machine.{WentAs, loss_count}
 use Rattle.hs_promise.specs.Promise.{AreOfScript}
@@ -88,3 +92,23 @@ pub record IsOfCluster (tells : Type 0) (S : Script) (r : Ran) : Type 0 where
   pub unopened : S.set.shape.copies ≡ 1 → how ≡ None → IsUnopened tells r
   pub closed : how ≡ None → IsUnopenedBy tells r (LeavesShards tells S.set.shape)
   pub served : Served tells S r
+
+-- ---- between two lines
+
+-- what each disk reads as is among what a crash leaves of it
+abbrev pub AreAmongLeft : List Standing → Type 0
+AreAmongLeft disks = (peer : ℕ) (side : Side) → IsImage ((disk_at disks peer).loose side) ((disk_at disks peer).seen side)
+
+-- what a cluster keeps to go on, on the disks that the run leaves
+pub record MayGoOn (tells : Type 0) (S : Script) (r : Ran) (story : Story) : Type 0 where
+  pub span : Span
+  pub before : span.before ≡ r.old.moment
+  pub old : AreHanded r.old span.disks
+  pub new : AreHanded r.new span.left
+  pub may : CanRunOn tells S.set span story.found (all_events story)
+  pub among : tells → AreAmongLeft r.new.disks
+
+-- the run is the machine's; and where its last line was gone past it may go on
+pub record IsRunThrough (tells : Type 0) (S : Script) (r : Ran) : Type 0 where
+  pub machine : IsOfCluster tells S r
+  pub rests : (ending_of r.ending).past ≡ true → IfSome machine.how (MayGoOn tells S r)

@@ -9,7 +9,7 @@ ghost use Rattle.hs_promise.specs.Run.{ran_of, script_of};
 ghost use Rattle.hs_run.specs.Between.{IsReadyAt};
 ghost use Rattle.hs_run.specs.Causes.{EndsBy, StopCause};
 ghost use Rattle.hs_run.specs.Going.{Begun, HasRun, StartsAt};
-ghost use Rattle.hs_run.specs.Machine.{IsOfCluster};
+ghost use Rattle.hs_run.specs.Machine.{IsRunThrough};
 
 use crate::outcome::{closed, outcome_of};
 use crate::reader::Reader;
@@ -102,8 +102,9 @@ pub fn run_script_on<A: Addresser, S: Source, K: Sink, D: Disk>(
     // Some run was begun.
     ensures begun { result.status ≡ Status.Usage → ⊥ }
 
-    // It is the machine's run, with what its disks show; and what was read, answered and printed.
-    ensures ran { (commands : ℕ → Option Command) × IsOfCluster D.tells
+    // It is the machine's run, with what its disks show; and what was read, answered and printed. Where its
+    // last line was gone past its cluster may go on.
+    ensures ran { (commands : ℕ → Option Command) × IsRunThrough D.tells
         (script_of (A.name naming.now) (record { shape = shape; limits = limits }) commands)
         (ran_of result
         (handed watch.old (map (λ disk. (D.stands disk, D.faults disk)) disks.old)

@@ -11,13 +11,13 @@ use Rattle.hs_ports.specs.Objects.{Objects, handed}
 use Rattle.hs_promise.specs.declared.status.Status.{Status}
 use Rattle.hs_promise.specs.Run.{Ran, ran_of}
 use Rattle.hs_run.specs.Ended.{ran_at}
-use Rattle.hs_run.specs.Machine.{IsOfCluster}
+use Rattle.hs_run.specs.Machine.{IsRunThrough}
 use Rattle.hs_run.specs.Stopping.{of_cluster, status_of}
 use Rattle.hs_run.specs.declared.stop.Stop.{Stop}
 use Rattle.hs_taking.specs.Shares.{Span}
 use Rattle.hs_run.proofs.CaseLemmas.{on_fine}
-use Rattle.hs_run.proofs.ClosedLemmas.{closed_hub}
-use Rattle.hs_run.proofs.DisksLemmas.{handed_counts, handed_stands}
+use Rattle.hs_run.proofs.ClosedLemmas.{closed_through}
+use Rattle.hs_run.proofs.DisksLemmas.{among_of, handed_counts, handed_stands}
 use Rattle.hs_run.proofs.StatusLemmas.{never_usage}
 use Rattle.hs_run.proofs.WholeLemmas.{handed_count, ran_same, run_ready, seen_count, whole_hub}
 use Rattle.hs_run.proofs.top.run_script_on.Goals as goal
@@ -38,8 +38,8 @@ returns-in-Err-clause-ran g c =
     let ending : Status = status_of (Err (of_cluster c.in-Err.fault)) 0 in
     let is : c.closed.result.status ≡ ending = c.closed.ensures.status ∙ c.status_of.ensures ∙ ap (λ (s : Stop). status_of (Err s) 0) c.of_cluster.ensures in
     let same : ran_of c.closed.result old new ≡ ran_at ending 0 None old new = ran_same c.closed.result ending 0 None old new is c.closed.ensures.line c.closed.ensures.journal c.closed.ensures.kept c.closed.ensures.stored c.closed.ensures.refused c.closed.ensures.course in
-    subst (λ (r : Ran). (commands : ℕ → Option Command) × IsOfCluster g.D.Disk.tells (record { set = set; commands = commands }) r) (sym same)
-    (closed_hub g.D.Disk.tells set span c.in-Err.fault old new c.in-Err.ensures.closed refl refl refl refl c.open.ensures.ticks
+    subst (λ (r : Ran). (commands : ℕ → Option Command) × IsRunThrough g.D.Disk.tells (record { set = set; commands = commands }) r) (sym same)
+    (closed_through g.D.Disk.tells set span c.in-Err.fault old new c.in-Err.ensures.closed refl refl refl refl c.open.ensures.ticks
     (record { stands = handed_stands f h (λ disk. refl) c.args.disks.now; counts = handed_counts f h (λ disk. refl) c.args.disks.now })
     (record { stands = handed_stands f h (λ disk. refl) c.open.new.disks; counts = handed_counts f h (λ disk. refl) c.open.new.disks })
     c.open.ensures.counted (λ told. since_of f c.open.new.disks (g.met.D.Disk.since told)) c.requires.shape
@@ -77,10 +77,11 @@ returns-clause-ran g c =
     let new : Objects = handed c.go-ended.new.watch (map h c.go-ended.new.disks) (g.K.Sink.got c.go-ended.new.sink, g.K.Sink.faults c.go-ended.new.sink) (g.S.Source.left c.go-ended.new.source, g.S.Source.faults c.go-ended.new.source) in
     let same : ran_of c.outcome_of.result old new ≡ ran_at c.status_of-2.result c.go-ended.new.run.line (Some c.go-ended.new.run.cluster) old new =
     ran_same c.outcome_of.result c.status_of-2.result c.go-ended.new.run.line (Some c.go-ended.new.run.cluster) old new c.outcome_of.ensures.status c.outcome_of.ensures.line c.outcome_of.ensures.journal c.outcome_of.ensures.kept c.outcome_of.ensures.stored c.outcome_of.ensures.refused c.outcome_of.ensures.course in
-    subst (λ (r : Ran). (commands : ℕ → Option Command) × IsOfCluster g.D.Disk.tells (record { set = set; commands = commands }) r) (sym same)
+    subst (λ (r : Ran). (commands : ℕ → Option Command) × IsRunThrough g.D.Disk.tells (record { set = set; commands = commands }) r) (sym same)
     (whole_hub g.D.Disk.tells set span c.in-Ok.opened.cluster c.in-Ok.opened.done c.in-Ok.ensures.opens old new _ c.new-run.ensures.cluster refl refl (λ told. since_of f c.open.new.disks (g.met.D.Disk.since told)) refl refl refl refl
     (record { stands = handed_stands f h (λ disk. refl) c.args.disks.now; counts = handed_counts f h (λ disk. refl) c.args.disks.now })
     (record { stands = handed_stands f h (λ disk. refl) c.go-ended.new.disks; counts = handed_counts f h (λ disk. refl) c.go-ended.new.disks })
+    (λ told. among_of h c.go-ended.new.disks (g.met.D.Disk.stays told))
     c.requires.shape (length-map c.args.disks.now f ∙ c.requires.count) (seen_count h f c.args.disks.now)
     c.go-ended.ensures.runs c.status_of-2.result c.status_of-2.ensures
     (handed_count h c.args.disks.now c.go-ended.new.disks (c.go-ended.ensures.count ∙ c.open.ensures.count)) c.go-ended.ensures.cause c.go-ended.ensures.ends)
