@@ -35,6 +35,7 @@ pub mod ReadLemmas
 pub mod ReadsListLemmas
 pub mod ReadyLemmas
 pub mod RestLemmas
+pub mod RestedLemmas
 pub mod RoomLemmas
 pub mod RowLemmas
 pub mod RunLemmas

@@ -195,7 +195,7 @@ module _ (tells : Type 0) (name : List ℕ → Address) (did : Result ⊤ Cluste
           (found (chosen b.old.left so_far.read) (status_of part.result part.new.line) part.new.line (Some part.new.cluster) so_far.lines part.new.cluster so_far.shows.shown) (plain_between part.result part.new.line stops)
           (paid_by tells b.set (span_to b part.new) b.found (all_events (story_of b so_far.lines)) b.old new was is so_far.shows.shown);
       runs = on_disks (chosen b.old.left so_far.read) (status_of part.result part.new.line) part.new.line (Some part.new.cluster) so_far.lines part.new.cluster so_far.shows.since so_far.shows.shown;
-      rests = λ past. record { span = span_to b part.new; before = refl; old = was; new = is; may = so_far.shows.may; among = among };
+      rests = λ past. record { span = span_to b part.new; before = refl; old = was; new = is; going = ap (λ (c : Core). c.ended) (sym so_far.gone.behind.core) ∙ so_far.gone.going; may = so_far.shows.may; among = among };
       ended = record {
         written = λ is. absurd (between_write part.result part.new.line stops is);
         answered = λ is. absurd (between_write part.result part.new.line stops is);

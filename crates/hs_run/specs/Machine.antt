@@ -105,6 +105,7 @@ pub record MayGoOn (tells : Type 0) (S : Script) (r : Ran) (story : Story) : Typ
   pub before : span.before ≡ r.old.moment
   pub old : AreHanded r.old span.disks
   pub new : AreHanded r.new span.left
+  pub going : (last_core S story).ended ≡ None
   pub may : CanRunOn tells S.set span story.found (all_events story)
   pub among : tells → AreAmongLeft r.new.disks
 

@@ -3,11 +3,11 @@ use Rattle.std.proofs.Common.{◌≡◌, ◌∙◌, ap, sym, refl, ℕ, ◌≤�
 use Rattle.std.specs.Prelude.{⊤, OnOk, Result}
 use Rattle.hs_awaiting.specs.Words.{change_if}
 use Rattle.hs_cluster.specs.declared.fault.ClusterFault.{ClusterFault}
-use Rattle.hs_cluster.specs.Disks.{seen_at}
+use Rattle.hs_cluster.specs.Disks.{seen_at, stands_of}
 use Rattle.hs_cluster.specs.Kept.{LeavesLists, ShowsLists, Span}
 use Rattle.hs_cluster.specs.Opens.{OpensLists}
-use Rattle.hs_cluster.specs.PeerLogs.{KeepsPeers}
-use Rattle.hs_cluster.specs.RunsOn.{RunsOn, from_opening}
+use Rattle.hs_cluster.specs.PeerLogs.{KeepsPeers, log_of_peer}
+use Rattle.hs_cluster.specs.RunsOn.{CanRunOn, RunsOn, from_opening}
 use Rattle.hs_copies.specs.Machine.{Copies}
 use Rattle.hs_core_words.specs.State.{Core}
 use Rattle.hs_core_words.specs.Step.{run_event, step}
@@ -17,9 +17,12 @@ use Rattle.hs_events.specs.Course.{steps}
 use Rattle.hs_events.specs.Due.{Events}
 use Rattle.hs_events.specs.Found.{Found, first_core}
 use Rattle.hs_events.specs.Whole.{Whole, open_whole, step_whole}
-use Rattle.hs_fold.specs.Shards.Setting.{Setting}
+use Rattle.hs_fold.specs.Shards.Setting.{Numbered, Setting}
+use Rattle.hs_members.specs.Members.{IsPeer}
 use Rattle.hs_moments.specs.Machine.{runs}
 use Rattle.hs_moments.specs.WholeMachine.{whole_machine}
+use Rattle.hs_peerlog.specs.Images.{LeavesOnly}
+use Rattle.hs_ports.specs.Moments.{disk_at}
 use Rattle.hs_whole_copies.proofs.AllLemmas.{all_stay}
 use Rattle.hs_whole_copies.specs.Opening.{MayOpenWhole}
 use Rattle.hs_whole_copies.specs.Whole.{IsWholeInStep, StaysWhole}
@@ -62,3 +65,10 @@ opened_shows set found events span shows may on = shows (open_whole set found) (
 pub run_shows : (tells : Type 0) (set : Setting) (span : Span) (found : Found) (events : Events) (on : RunsOn tells set span found events) → tells → ((peer : ℕ) → (seen_at span.disks peer).stands.last ≤ span.before) → MayOpenWhole set found
     → (first_core set found).ended ≡ None → LeavesLists (open_whole set found) events (from_opening found on.disks span)
 run_shows tells set span found events on told called may going = opened_shows set found events (from_opening found on.disks span) (on.copies told called) may going
+
+-- and where it may go on a crash leaves just the list that is told of a peer's log
+pub run_rests : (tells : Type 0) (set : Setting) (span : Span) (found : Found) (events : Events) → CanRunOn tells set span found events → tells → ((peer : ℕ) → (seen_at span.disks peer).stands.last ≤ span.before) → MayOpenWhole set found
+    → (first_core set found).ended ≡ None → (peer : ℕ) (list : Numbered) → IsPeer (runs whole_machine (open_whole set found) events).core.members.shape peer → log_of_peer (runs whole_machine (open_whole set found) events) peer ≡ Some list
+    → LeavesOnly (disk_at (stands_of span.left) peer) list
+run_rests tells set span found events can told called may going peer list there is =
+    ((can.keeps told called (open_whole set found) (opens_lists set found may going) (opens_steady set found events may)).listed.each peer list there is).has.leaves

@@ -28,7 +28,7 @@ use Rattle.hs_promise.specs.Shapes.{ShapeCause}
 use Rattle.hs_promise.specs.Stops.{Stops}
 use Rattle.hs_promise.specs.Untold.{IsGoodUntold}
 use Rattle.hs_promise.specs.declared.status.Status.TheVariants as status
-use Rattle.hs_run.specs.Machine.{IsOfCluster}
+use Rattle.hs_run.specs.Machine.{IsRunThrough}
 use Rattle.hs_script.specs.declared.invocation.Task.{Task}
 use Rattle.hs_script.specs.declared.invocation.Task.TheVariants as task
 use Rattle.hs_side.specs.Current.{list_in}
@@ -81,10 +81,10 @@ pub record Promised (tells : Type 0) (S : Script) (r : Ran) : Type 0 where
 
 -- ---- what a call promises
 
--- this, and that the run is the machine's, on the events that are due and on no others
+-- this, and that the run is the machine's, on the events that are due and on no others, and may go on where its last line was gone past
 pub record RunsSo (tells : Type 0) (S : Script) (r : Ran) : Type 0 where
   pub promised : Promised tells S r
-  pub machine : IsOfCluster tells S r
+  pub through : IsRunThrough tells S r
 
 -- what is asked for is done: a run of some commands goes so; a load has its writers and workers over an empty store; an audit says what the store amounts to, and a scrub whether its copies agree; a file is stored and kept, or that of a key is fetched; a root is copied into a second store; nothing else is served
 abbrev pub Does : Type 0 → (List ℕ → Address) → Shape → Task → Ran → Type 0

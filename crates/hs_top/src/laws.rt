@@ -6,19 +6,18 @@ ghost use Rattle.hs_limits.specs.declared.limits.Limits.{Limits};
 ghost use Rattle.hs_model.specs.Store.{Store};
 ghost use Rattle.hs_model.specs.declared.command.Command.{Command};
 ghost use Rattle.hs_ports.specs.Disk.{Standing};
-ghost use Rattle.hs_ports.specs.Moments.{disk_at};
 ghost use Rattle.hs_ports.specs.Objects.{IsDuring};
 ghost use Rattle.hs_promise.specs.Ending.{ending_of};
 ghost use Rattle.hs_promise.specs.Entry.{MayStop, is_aside};
 ghost use Rattle.hs_promise.specs.Run.{Ran, Script};
 ghost use Rattle.hs_promise.specs.Stops.{Stops, stop_at};
 ghost use Rattle.hs_promise.specs.Untold.{NoneFails};
-ghost use Rattle.hs_run.specs.Machine.{IsOfCluster};
+ghost use Rattle.hs_run.specs.Machine.{IsOfCluster, IsRunThrough};
 ghost use Rattle.hs_standing.specs.Held.{GivesAddresses};
 ghost use Rattle.hs_top.specs.Next.{Follows, script_after};
 ghost use Rattle.hs_top.specs.Rest.{AreAtRest, EndsAtRest, HasOneList, IsAtRest};
 
-use hs_clauses::a_run_may_stop;
+use hs_clauses::{a_run_may_stop, a_run_stands};
 use hs_ports::Disk;
 use hs_settled::{a_note_ends_the_run, a_peer_is_good_until_it_is_told};
 use hs_sound::waiting_lists_are_sound_with_runs;
@@ -55,16 +54,15 @@ pub fn a_run_may_begin()
 /// A run may begin on the disks that an earlier one left, which ended at rest: what is asked at entry of
 /// what a stop leaves holds there, whatever the limits of the run. One whose opening sets no peer aside has
 /// all of them (`again`). A store of one shard of one copy needs no such premise (`alone`). Of each disk it
-/// asks that whatever a crash leaves of it has one list; so it is of a disk at rest (`rest`). Nothing else is
-/// asked of a run whose last line was gone past, no line of which asks a peer to fail (`ends`).
+/// asks that whatever a crash leaves of it has one list; so it is of a disk at rest (`rest`). Nothing is asked
+/// of a run whose last line was gone past, no line of which asks a peer to fail (`ends`).
 pub fn a_run_may_follow<D: Disk>()
     ensures rest { (image : Image) (moment : ℕ) (disk : Standing)
         → IsAtRest image moment disk → HasOneList disk }
-    ensures ends { (S : Script) (r : Ran) → S.set.shape.copies ≡ 1
-        → IsOfCluster D.tells S r → D.tells → MayStop S r
+    ensures ends { (S : Script) (r : Ran) → S.set.shape.copies ≡ 1 → GivesAddresses S.set.name
+        → IsRunThrough D.tells S r → D.tells → MayStop S r
         → (ending_of r.ending).past ≡ true → ((peer : ℕ) → NoneFails S r peer)
         → r.new.moment + 1 < 2 ^ 64 - 1
-        → ((peer : ℕ) → peer < length r.new.disks → HasOneList (disk_at r.new.disks peer))
         → EndsAtRest S r }
     ensures again { (S : Script) (r : Ran) → S.set.shape.copies ≡ 1 → GivesAddresses S.set.name
         → IsOfCluster D.tells S r → D.tells → MayStop S r → EndsAtRest S r
@@ -80,6 +78,7 @@ pub fn a_run_may_follow<D: Disk>()
 {
     waiting_lists_are_sound_with_runs();
     a_run_may_stop();
+    a_run_stands();
     a_peer_is_good_until_it_is_told();
     a_note_ends_the_run();
 }

@@ -16,6 +16,11 @@ pub returns-clause-rest : goal.returns-clause-rest
 returns-clause-rest g c = λ image moment disk rest. rest_one image moment disk rest
 
 pub returns-clause-ends : goal.returns-clause-ends
-returns-clause-ends g c = λ S r one cluster told may past none early lists.
-    ends_rest (record { opens = c.a_peer_is_good_until_it_is_told.ensures.opens; stays = c.a_peer_is_good_until_it_is_told.ensures.stays; notes = c.a_note_ends_the_run.ensures })
-    g.D.Disk.tells S r one cluster told may past none early lists
+returns-clause-ends g c = λ S r one names through told may past none early.
+    ends_rest (record {
+      opens = c.a_peer_is_good_until_it_is_told.ensures.opens;
+      stays = c.a_peer_is_good_until_it_is_told.ensures.stays;
+      notes = c.a_note_ends_the_run.ensures;
+      soundly = c.a_run_stands.ensures.soundly;
+    })
+    g.D.Disk.tells S r one names through told may past none early

@@ -42,8 +42,8 @@ returns g c =
       runs = (
         ran.0,
         record {
-          promised = promised_of laws g.D.Disk.tells _ _ (g.A.Addresser.sized c.args.naming.now) c.run_script_on.ensures.begun ran.1;
-          machine = ran.1;
+          promised = promised_of laws g.D.Disk.tells _ _ (g.A.Addresser.sized c.args.naming.now) c.run_script_on.ensures.begun ran.1.machine;
+          through = ran.1;
         },
       );
       begun = c.run_script_on.ensures.begun;
