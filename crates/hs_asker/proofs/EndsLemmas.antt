@@ -1,6 +1,6 @@
 -- How a run ended whose asker has ended so, or goes on.
 use Rattle.std.proofs.Common.{◌≡◌, ℕ, false, Option, Some, None, Err, refl}
-use Rattle.std.proofs.lemmas.Bool.{false≢true}
+use Rattle.std.proofs.lemmas.Bool.{false≢true, true≢false}
 use Rattle.std.specs.Prelude.{⊤}
 use Rattle.hs_cluster.specs.Calls.{outcome_by, ran_out}
 use Rattle.hs_cluster.specs.declared.fault.ClusterFault.{ClusterFault}
@@ -40,6 +40,13 @@ pub none_past : (fault : CoreFault) → (ending_of (status_by (Some fault))).pas
 none_past core.OpsFull = refl
 none_past (core.ShardLost shard) = refl
 none_past core.NoMemory = refl
+
+-- where all was put, memory did not run out
+pub told_out : (fault : ClusterFault) → (ending_of (status_by (Some (core_of fault)))).short ≡ false → ran_out {T = ⊤} (Err fault) ≡ false
+told_out (cluster.WrongShape peer found) whole = refl
+told_out (cluster.ShardLost shard) whole = refl
+told_out cluster.OpsFull whole = refl
+told_out cluster.NoMemory whole = absurd (true≢false whole)
 
 -- ---- between two lines
 

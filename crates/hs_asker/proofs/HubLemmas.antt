@@ -1,12 +1,12 @@
 -- A run of what was asked for, as the machine's.
-use Rattle.std.proofs.Common.{◌≡◌, ◌∙◌, ap, sym, ℕ, ◌*◌, ◌<◌, ◌≤◌, Bool, List, [], Option, Some, None, refl, arith, length}
+use Rattle.std.proofs.Common.{◌≡◌, ◌∙◌, ap, sym, ℕ, ◌*◌, ◌<◌, ◌≤◌, Bool, false, List, [], Option, Some, None, refl, arith, length}
 use Rattle.std.proofs.lemmas.List.{length-map}
 use Rattle.std.proofs.lemmas.List.Elements.{All-nil}
 use Rattle.std.specs.Prelude.{if◌then◌else◌}
 use Rattle.hs_cluster.specs.Disks.{DiskSeen, seen_at, stands_of}
 use Rattle.hs_cluster.specs.Kept.{Span}
 use Rattle.hs_cluster.specs.Running.{Running}
-use Rattle.hs_cluster.specs.RunsOn.{RunsOn}
+use Rattle.hs_cluster.specs.RunsOn.{RunsOn, StandUntold}
 use Rattle.hs_desk.specs.declared.fault.CoreFault.{CoreFault}
 use Rattle.hs_events.specs.Due.{Events}
 use Rattle.hs_events.specs.Found.{Found}
@@ -18,7 +18,6 @@ use Rattle.hs_peerlog.specs.Opening.{refusal_in}
 use Rattle.hs_ports.specs.Disk.{Standing}
 use Rattle.hs_ports.specs.Moments.{disk_at}
 use Rattle.hs_ports.specs.Watch.{next_moment}
-use Rattle.hs_promise.specs.Calm.{PassesCalmly}
 use Rattle.hs_promise.specs.Ending.{ending_of}
 use Rattle.hs_promise.specs.Found.{HasFound}
 use Rattle.hs_promise.specs.Machine.{Went}
@@ -31,7 +30,7 @@ use Rattle.hs_run.specs.Ended.{ran_at}
 use Rattle.hs_run.specs.Going.{Begun, story_of}
 use Rattle.hs_run.specs.Machine.{AreHanded, IsOfCluster, RunsOnDisks}
 use Rattle.hs_run.specs.Served.{Served}
-use Rattle.hs_run.proofs.DisksLemmas.{disk_is, failed_by, falls_is, lost_by, none_fell, paid_by, past_is, read_as, risen_since, rose_is, told_as}
+use Rattle.hs_run.proofs.DisksLemmas.{disk_is, failed_by, falls_is, lost_by, none_fell, paid_by, past_is, read_as, risen_since, rose_is, stands_as, told_as}
 use Rattle.hs_run.proofs.FoundLemmas.{has_found}
 use Rattle.hs_run.proofs.HeaderLemmas.{headers_kept}
 use Rattle.hs_run.proofs.RunLemmas.{put_by}
@@ -65,14 +64,18 @@ module _ (tells : Type 0) (e : AtEntry) (found : Found) (first : Running) (openi
   story = story_of b lines
 
   module _ (shown : RunsOn tells e.set span found (all_events story)) (since : tells → Since (stands_of disks)) where
+    -- no count rose of which nothing is told, where memory was not wanting
+    abbrev StandsUntold : Type 0
+    StandsUntold = (ending_of (status_by why)).short ≡ false → StandUntold e.set found (all_events story) e.disks disks
+
     pub found_so : HasFound S r story
     found_so = has_found tells b lines commands r span refl (handed_so e.moment e.disks) (handed_so now disks) shown
 
     pub paid_so : ArePaid b lines (silent now disks)
     paid_so = paid_by tells e.set span found (all_events story) (silent e.moment e.disks) (silent now disks) (handed_so e.moment e.disks) (handed_so now disks) shown
 
-    pub on_disks : RunsOnDisks tells S r story
-    on_disks = record {
+    on_disks : StandsUntold → RunsOnDisks tells S r story
+    on_disks stands = record {
       span = span;
       before = refl;
       now = refl;
@@ -82,6 +85,7 @@ module _ (tells : Type 0) (e : AtEntry) (found : Found) (first : Running) (openi
       shown = shown;
       lost = lost_by tells e.set span found (all_events story) (silent e.moment e.disks) (silent now disks) (handed_so e.moment e.disks) (handed_so now disks) shown;
       failed = failed_by tells e.set span found (all_events story) (silent e.moment e.disks) (silent now disks) (handed_so e.moment e.disks) (handed_so now disks) shown;
+      untold = λ whole. stands_as e.set span found (all_events story) (silent e.moment e.disks) (silent now disks) (handed_so e.moment e.disks) (handed_so now disks) (stands whole);
     }
 
     -- a disk of another store failed
@@ -94,8 +98,8 @@ module _ (tells : Type 0) (e : AtEntry) (found : Found) (first : Running) (openi
         rose_is 1 (silent e.moment e.disks) (silent now disks) e.disks disks (handed_so e.moment e.disks) (handed_so now disks) peer
         (risen_since tells e.set span found (all_events story) shown peer (shown.own told peer header low refused))
 
-    served : length disks ≡ length e.disks → length cluster.core.journal ≤ e.set.limits.ops → e.moment ≤ now → PassesCalmly S r → Served tells S r
-    served count fits later calm = record {
+    served : length disks ≡ length e.disks → length cluster.core.journal ≤ e.set.limits.ops → e.moment ≤ now → Served tells S r
+    served count fits later = record {
       script = tt;
       handed_back = length-map disks (λ (d : DiskSeen). d.stands) ∙ count ∙ sym (length-map e.disks (λ (d : DiskSeen). d.stands));
       prints = record {
@@ -117,7 +121,7 @@ module _ (tells : Type 0) (e : AtEntry) (found : Found) (first : Running) (openi
         shape = λ peer header is. absurd (never_shape why peer header is);
       };
       within = λ peer header is. absurd (never_shape why peer header is);
-      calm = record { past = calm; other = λ peer header is. absurd (never_shape why peer header is) };
+      others = λ peer header is. absurd (never_shape why peer header is);
       left = λ some. some;
       ends = tt;
       past = λ one told. past_is (silent e.moment e.disks) (silent now disks) e.moment now e.disks disks (handed_so e.moment e.disks) (handed_so now disks) refl refl (shown.past one told);
@@ -130,18 +134,18 @@ module _ (tells : Type 0) (e : AtEntry) (found : Found) (first : Running) (openi
     }
 
     pub hub : IsShape e.set.shape → length e.disks ≡ e.set.shape.shards * e.set.shape.copies → length disks ≡ length e.disks → length cluster.core.journal ≤ e.set.limits.ops → e.moment ≤ now → commands 0 ≡ None
-        → PassesCalmly S r → Went S r story → IsOfCluster tells S r
-    hub shape count left fits later nobody calm went = record {
+        → StandsUntold → Went S r story → IsOfCluster tells S r
+    hub shape count left fits later nobody stands went = record {
       shape = shape;
       count = length-map e.disks (λ (d : DiskSeen). d.stands) ∙ count;
       script = tt;
       nobody = nobody;
       how = Some story;
       went = went;
-      told = λ told. record { read = read_as tells S r story on_disks told; told = λ one. told_as tells S r story on_disks one told };
-      runs = on_disks;
+      told = λ told. record { read = read_as tells S r story (on_disks stands) told; told = λ one. told_as tells S r story (on_disks stands) one told };
+      runs = on_disks stands;
       ended = record { written = λ is. absurd (never_write why is); answered = λ is. absurd (never_write why is); unread = λ some. refl };
       unopened = λ one none. absurd (some_none story none);
       closed = λ none. absurd (some_none story none);
-      served = served left fits later calm;
+      served = served left fits later;
     }

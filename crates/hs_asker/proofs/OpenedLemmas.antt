@@ -9,7 +9,7 @@ use Rattle.hs_cluster.specs.Calls.{outcome_by, ran_out}
 use Rattle.hs_cluster.specs.Disks.{AreReady, DiskSeen, stands_of}
 use Rattle.hs_cluster.specs.Opens.{Opens}
 use Rattle.hs_cluster.specs.Running.{Running}
-use Rattle.hs_cluster.specs.RunsOn.{RunsOn}
+use Rattle.hs_cluster.specs.RunsOn.{RunsOn, StandUntold}
 use Rattle.hs_cluster.specs.declared.fault.ClusterFault.{ClusterFault}
 use Rattle.hs_cluster.specs.declared.fault.ClusterFault.TheVariants as cluster
 use Rattle.hs_desk.specs.declared.fault.CoreFault.{CoreFault}
@@ -46,7 +46,7 @@ use Rattle.hs_asker.specs.Asked.{core_of}
 use Rattle.hs_asker.specs.Going.{AtEntry, HasDone, HasStopped, IsAsker, IsGoing, begun_by, point_of}
 use Rattle.hs_asker.specs.Silent.{silent, status_by}
 use Rattle.hs_asker.proofs.DoneLemmas.{quiet}
-use Rattle.hs_asker.proofs.EndsLemmas.{none_past}
+use Rattle.hs_asker.proofs.EndsLemmas.{told_out}
 use Rattle.hs_asker.proofs.HubLemmas.{found_so, hub, paid_so}
 use Rattle.hs_asker.proofs.StopLemmas.{stops_between}
 
@@ -168,7 +168,7 @@ module _ (tells : Type 0) (set : Setting) (span : Taking) (running : Running) (f
       hub tells e' opens.found opens.begun opens.events (λ n. None) (Some why) 0 span.now running running span.new [] shown' since shape count left
       (subst (λ (j : List JournalEntry). length j ≤ set.limits.ops) (sym opened'.journal) opened'.answered.fits)
       (since_opened tells b' (Err fault) at' opened') refl
-      (λ one past. absurd (false≢true (sym (none_past why) ∙ past)))
+      (λ whole. subst (λ (es : Events). StandUntold set opens.found es span.old span.new) (sym (append-nil opens.events)) (opened'.untold (told_out fault whole)))
       went'
 
 -- ---- from what an asker was handed

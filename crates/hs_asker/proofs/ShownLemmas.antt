@@ -1,10 +1,11 @@
 -- What the disks show, behind one line more.
-use Rattle.std.proofs.Common.{◌≡◌, sym, subst, true, List, [], ◌∷◌, ◌++◌, Result}
+use Rattle.std.proofs.Common.{◌≡◌, sym, subst, false, true, List, [], ◌∷◌, ◌++◌, Result}
 use Rattle.std.specs.Prelude.{is_ok, ⊤}
-use Rattle.hs_cluster.proofs.RunLemmas.{can_more, runs_more}
+use Rattle.hs_cluster.proofs.RunLemmas.{can_more, runs_more, untold_more}
+use Rattle.hs_cluster.specs.Calls.{ran_out}
 use Rattle.hs_cluster.specs.declared.fault.ClusterFault.{ClusterFault}
 use Rattle.hs_cluster.specs.Running.{Running}
-use Rattle.hs_cluster.specs.RunsOn.{CanRunOn, RunsOn}
+use Rattle.hs_cluster.specs.RunsOn.{CanRunOn, RunsOn, StandUntold}
 use Rattle.hs_events.specs.Due.{Events}
 use Rattle.hs_events.specs.Found.{Found}
 use Rattle.hs_model.specs.declared.command.Command.{Command}
@@ -33,6 +34,11 @@ module _ (tells : Type 0) (e : AtEntry) (found : Found) (first : Running) (openi
     within_shown = subst (λ (all : Events). RunsOn tells e.set (span_to b new) found all) (sym same)
         (runs_more tells e.set found e.moment at.now new.now first at.cluster new.cluster e.disks at.disks new.disks did (all_events (story_of b lines)) es
         shows.shown shows.may done.behind.core done.going done.behind.rises runs.runs.rises runs.runs.does.rooms runs.runs.kept)
+
+    pub within_untold : ran_out did ≡ false → StandUntold e.set found (all_events (story_of b (lines ++ es ∷ []))) e.disks new.disks
+    within_untold out = subst (λ (all : Events). StandUntold e.set found all e.disks new.disks) (sym same)
+        (untold_more tells e.set found e.moment at.now new.now first at.cluster new.cluster e.disks at.disks new.disks did (all_events (story_of b lines)) es
+        shows.shown shows.may done.behind.core done.going done.behind.rises runs.runs.rises runs.runs.does.rooms runs.runs.kept out)
 
     can_then : is_ok did ≡ true → CanRunOn tells e.set (span_to b new) found more
     can_then fine = on_fine (CanRunOn tells e.set (span_to b new) found more) did fine

@@ -1,6 +1,5 @@
 -- Where an asker ended, its run is the machine's.
 use Rattle.std.proofs.Common.{◌≡◌, ◌∙◌, ap, sym, subst, ℕ, ◌+◌, ◌*◌, ◌≤◌, false, List, [], ◌∷◌, ◌++◌, Option, Some, None, Err, refl, arith, length}
-use Rattle.std.proofs.lemmas.Bool.{false≢true}
 use Rattle.std.specs.Prelude.{if◌then◌else◌, ⊤}
 use Rattle.hs_cluster.specs.Calls.{outcome_by, ran_out}
 use Rattle.hs_cluster.specs.Running.{Running}
@@ -23,7 +22,6 @@ use Rattle.hs_run.specs.Ended.{ran_at}
 use Rattle.hs_run.specs.Going.{Begun, HasShown, core_behind, script_by, story_of}
 use Rattle.hs_run.specs.Machine.{IsOfCluster}
 use Rattle.hs_run.proofs.CutLemmas.{walk_cut}
-use Rattle.hs_run.proofs.DisksLemmas.{calm_is}
 use Rattle.hs_run.proofs.GoneLemmas.{lines_as, lines_with}
 use Rattle.hs_run.proofs.RiseLemmas.{rise_le}
 use Rattle.hs_asker.specs.Asked.{core_of}
@@ -31,10 +29,10 @@ use Rattle.hs_asker.specs.Going.{AtEntry, HasDone, RunsAlone, begun_by}
 use Rattle.hs_asker.specs.Lines.{AreAsked}
 use Rattle.hs_asker.specs.Silent.{silent, status_by}
 use Rattle.hs_asker.proofs.DoneLemmas.{answered_more, are_of_line, by_core, course_more, gone_before, length_more, line_begun, line_core, rises_more, up}
-use Rattle.hs_asker.proofs.EndsLemmas.{IsBetween, ends_between, ends_within, none_past}
-use Rattle.hs_asker.proofs.HubLemmas.{found_so, handed_so, hub, paid_so}
+use Rattle.hs_asker.proofs.EndsLemmas.{IsBetween, ends_between, ends_within, none_past, told_out}
+use Rattle.hs_asker.proofs.HubLemmas.{found_so, hub, paid_so}
 use Rattle.hs_asker.proofs.LinesLemmas.{asked_less}
-use Rattle.hs_asker.proofs.ShownLemmas.{within_shown}
+use Rattle.hs_asker.proofs.ShownLemmas.{within_shown, within_untold}
 
 module _ (tells : Type 0) (e : AtEntry) (found : Found) (first : Running) (opening : Events) (shape : IsShape e.set.shape) (count : length e.disks ≡ e.set.shape.shards * e.set.shape.copies) where
   abbrev b : Begun
@@ -71,7 +69,7 @@ module _ (tells : Type 0) (e : AtEntry) (found : Found) (first : Running) (openi
     pub stops_between : IsOfCluster tells (record { set = e.set; commands = commands }) ran
     stops_between =
         hub tells e found first opening commands why at.line at.now at.cluster at.cluster at.disks lines shows.shown shows.since shape count left done.behind.answered.fits (later_so said lines at done) nobody
-        (λ one past. calm_is (silent e.moment e.disks) (silent at.now at.disks) e.disks at.disks (handed_so e.moment e.disks) (handed_so at.now at.disks) (shows.may.calm one).none)
+        (λ whole. shows.may.untold)
         went
 
   -- ---- within one
@@ -112,5 +110,5 @@ module _ (tells : Type 0) (e : AtEntry) (found : Found) (first : Running) (openi
         hub tells e found first opening commands (Some (core_of fault)) new.line new.now new.cluster new.cluster new.disks (lines ++ es ∷ []) (within_shown tells e found first opening said lines at new asked (Err fault) done runs shows) runs.since shape count left
         (subst (λ (j : List JournalEntry). length j ≤ e.set.limits.ops) (sym runs.runs.does.journal) (answered_more tells e found first opening said lines at new asked (Err fault) done runs).fits)
         (let low = later_so said lines at done in let high = up tells e found first opening said lines at new asked (Err fault) done runs in omega (arith, low, high)) nobody
-        (λ one past. absurd (false≢true (sym (none_past (core_of fault)) ∙ past)))
+        (λ whole. within_untold tells e found first opening said lines at new asked (Err fault) done runs shows (told_out fault whole))
         went_cut

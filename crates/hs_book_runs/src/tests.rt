@@ -68,6 +68,7 @@ fn of_script<D: Disk>(alloc: Global, shape: Shape, disks: &mut [D]) -> Result<Jo
         alloc,
         shape,
         Limits::greatest(),
+        0,
         &ShaNames,
         &mut ListSource::new(alloc, text, Vec::new(alloc)),
         &mut ListSink::new(alloc, Vec::new(alloc)),

@@ -8,6 +8,7 @@ pub mod AwaitLemmas
 pub mod BlockLemmas
 pub mod CaseLemmas
 pub mod ComingLemmas
+pub mod CostLemmas
 pub mod CountedLemmas
 pub mod CourseLemmas
 pub mod EndedLemmas

@@ -43,8 +43,8 @@ pub begins_ok : (tells : Type 0) (set : Setting) (span : Span) (taken : Taken) (
     → length taken.logs ≡ set.shape.shards * set.shape.copies → span.before ≤ span.now → length span.old ≡ set.shape.shards * set.shape.copies → length span.new ≡ length span.old → NoneFalls span.old span.new
     → (tells → (peer : ℕ) (found : Header) → peer < length span.old → refusal_in set.shape peer (seen_at span.old peer).stands.seen ≡ Some (log.WrongShape found) → HasRisen (seen_at span.old peer).faults (seen_at span.new peer).faults)
     → OwnTheirLogs tells set.shape (log_at taken.logs) → ((peer : ℕ) → peer < length span.old → KeepsItsHeader tells (own_header set.shape peer) span.before span.now (seen_at span.old peer) (seen_at span.new peer))
-    → IfOk r (λ c. c.logs ≡ taken.logs) → IfOk r (λ c. c.core ≡ open_core set.shape set.limits (opened_with taken) moment) → IfOk r (λ c. c.course ≡ begun_course set.shape entry moment taken) → IfOk r (Begins tells set span)
-begins_ok tells set span taken entry moment (Ok c) first last shape read shares count ticks disks left falls own owns headed logs core course = record {
+    → IfOk r (λ c. c.logs ≡ taken.logs) → IfOk r (λ c. c.core ≡ open_core set.shape set.limits (opened_with taken) moment) → IfOk r (λ c. c.course ≡ begun_course set.shape entry moment taken) → IfOk r (λ c. c.cache ≡ None) → IfOk r (Begins tells set span)
+begins_ok tells set span taken entry moment (Ok c) first last shape read shares count ticks disks left falls own owns headed logs core course uncached = record {
   taken = taken;
   shape = shape;
   read = read;
@@ -56,9 +56,10 @@ begins_ok tells set span taken entry moment (Ok c) first last shape read shares 
   disks = disks;
   left = left;
   logs = logs;
+  uncached = uncached;
   owns = owns;
   headed = headed;
   core = core ∙ ap (λ m. open_core set.shape set.limits (opened_with taken) m) last;
   course = course ∙ (λ i. begun_course set.shape (first i) (last i) taken);
 }
-begins_ok tells set span taken entry moment (Err fault) first last shape read shares count ticks disks left falls own owns headed logs core course = tt
+begins_ok tells set span taken entry moment (Err fault) first last shape read shares count ticks disks left falls own owns headed logs core course uncached = tt

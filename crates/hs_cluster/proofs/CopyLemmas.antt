@@ -55,6 +55,25 @@ pub alone_failed : (peer : ℕ) → FailsAlone peer (done.Failed peer)
 alone_failed peer = λ disk at. sym (some_is peer disk at)
 
 -- it is told
+-- a job is one job
+pub usual_not : (todo : Option Job) (j k : Job) → todo ≡ Some j → is_own (Some j) ≡ true → todo ≡ Some k → is_own (Some k) ≡ false → ⊥
+usual_not todo j k one own other out = never (sym own ∙ ap is_own (sym one ∙ other) ∙ out)
+  where
+    never : true ≡ false → ⊥
+    never e = cc e
+
+pub copy_not_reset : (todo : Option Job) (from number : ℕ) → todo ≡ Some (job.Copy from number) → todo ≡ Some job.Reset → ⊥
+copy_not_reset todo from number one other = never (sym one ∙ other)
+  where
+    never : Some (job.Copy from number) ≡ Some job.Reset → ⊥
+    never e = cc e
+
+pub copy_same : (todo : Option Job) (from number at n : ℕ) → todo ≡ Some (job.Copy from number) → todo ≡ Some (job.Copy at n) → (from ≡ at) × (number ≡ n)
+copy_same todo from number at n one other = both (sym one ∙ other)
+  where
+    both : Some (job.Copy from number) ≡ Some (job.Copy at n) → (from ≡ at) × (number ≡ n)
+    both e = (cc e, cc e)
+
 pub told_as : {E : Type 0} (r : Result Done E) (x : Done) (P : Done → Type 0) → P x → IfOk r (λ told. told ≡ x) → IfOk r P
 told_as (Ok told) x P p is = subst P (sym is) p
 told_as (Err fault) x P p is = tt

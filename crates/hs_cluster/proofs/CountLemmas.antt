@@ -4,7 +4,7 @@ use Rattle.std.proofs.lemmas.Bool.{cases_eq, cases_lt}
 use Rattle.std.specs.Option.{option_map_or}
 use Rattle.std.specs.Prelude.{◌==◌, ◌||◌, ⊤, IfErr, IfOk, IfSome, Result, Ok, Err, if◌then◌else◌, min, slice_index_or, slice_set}
 use Rattle.hs_cluster.specs.Calls.{done_of, ran_out}
-use Rattle.hs_cluster.specs.Counts.{AllStandUntold, AreAllCounted, AreCounted, HasAllPaid, HasPaid, IsCopyPaid, IsPaid, NoneFalls, NoneRises, StandsUntold}
+use Rattle.hs_cluster.specs.Counts.{AllStandUntold, AreAllCounted, AreCounted, HasAllPaid, HasPaid, HasRisenTold, IsCopyPaid, IsPaid, NoneFalls, NoneRises, StandsUntold, UntoldStand}
 use Rattle.hs_cluster.specs.declared.fault.ClusterFault.{ClusterFault}
 use Rattle.hs_cluster.specs.Disks.{DiskSeen, seen_at}
 use Rattle.hs_core_words.specs.declared.event.Event.{Event}
@@ -140,6 +140,36 @@ all_costs_of disk peer core done h = go (failed_disk done) (option_map_or (only_
     go : (o : Option ℕ) (reads : Bool) → (option_map_or (λ d. d == disk) o false && (true || not reads)) ≡ true → o ≡ Some disk
     go None reads h = absurd (no_truth h)
     go (Some d) reads h = ap (λ n. Some n) (same_number d disk (both_true (d == disk) (true || not reads) h).0)
+
+pub told_paid_result : {E : Type 0} (core : Core) (peer : ℕ) (result : Result Done E) (old new : List DiskSeen) → IfOk result (λ done. HasRisenTold done old new) → IfOk result (λ done. HasAllPaid core peer done old new)
+told_paid_result core peer (Ok done) old new risen = λ disk cost. risen disk (all_costs_of disk peer core done cost)
+told_paid_result core peer (Err fault) old new risen = tt
+
+-- a job on the disk of its peer alone, behind calls of which no count fell
+pub risen_result : {E : Type 0} (peer : ℕ) (result : Result Done E) (old mid new : List DiskSeen) → NoneFalls old mid → IfOk result (IsPaid peer (seen_at mid peer).faults (seen_at new peer).faults) → IfOk result (λ done. HasRisenTold done old new)
+risen_result peer (Ok done) old mid new falls paid = λ disk fails.
+    let both = subst (λ o. IfSome o (λ d. (d ≡ peer) × HasRisen (seen_at mid peer).faults (seen_at new peer).faults)) fails paid in
+    subst (λ p. HasRisen (seen_at old p).faults (seen_at new p).faults) (sym both.0)
+    (risen_from (2 ^ 64 - 1) (seen_at old peer).faults (seen_at mid peer).faults (seen_at new peer).faults (falls peer) both.1)
+risen_result peer (Err fault) old mid new falls paid = tt
+
+-- one that was given up since a disk failed
+pub risen_told : (from : ℕ) (old new : List DiskSeen) → HasRisen (seen_at old from).faults (seen_at new from).faults → HasRisenTold (done.Failed from) old new
+risen_told from old new rose = λ disk fails. let same : from ≡ disk = cc fails in subst (λ p. HasRisen (seen_at old p).faults (seen_at new p).faults) same rose
+
+pub failed_risen : {T E : Type 0} (from : ℕ) (fault : LogFault) (before now : ℕ) (r : Result Done E) (old new : List DiskSeen) → IsOutside fault → IsCaused {T = T} before now (Err fault)
+    → (HasRisen before now → HasRisen (seen_at old from).faults (seen_at new from).faults) → IfOk r (λ told. told ≡ done.Failed from) → IfOk r (λ told. fault ≡ log.NoMemory → ⊥) → IfOk r (λ told. HasRisenTold told old new)
+failed_risen {T = T} from fault before now (Ok told) old new outside cause there is no_memory =
+    subst (λ t. HasRisenTold t old new) (sym is) (risen_told from old new (there (rose_outside {T = T} before now fault (Err fault) refl no_memory outside cause)))
+failed_risen from fault before now (Err other) old new outside cause there is no_memory = tt
+
+-- the one disk of several that had a call
+pub risen_at : {A : Type 0} (f : A → DiskSeen) (disks : List A) (at place : ℕ) (d disk : A) → place ≡ at → place < length disks → HasRisen (f (slice_index_or disks place d)).faults (f disk).faults
+    → HasRisen (seen_at (map f disks) at).faults (seen_at (map f (slice_set disks place disk)) at).faults
+risen_at f disks at place d disk same low rose =
+    subst (λ p. HasRisen (seen_at (map f disks) p).faults (seen_at (map f (slice_set disks place disk)) p).faults) same
+    (subst (λ n. HasRisen n (seen_at (map f (slice_set disks place disk)) place).faults) (ap (λ (s : DiskSeen). s.faults) (sym (seen_is f disks place d low)))
+    (subst (λ n. HasRisen (f (slice_index_or disks place d)).faults n) (ap (λ (s : DiskSeen). s.faults) (sym (seen_here f disks place disk low))) rose))
 
 -- a job of whatever kind on the disk of its peer alone
 pub all_paid : (core : Core) (peer : ℕ) (done : Done) (old new : List DiskSeen) → IsPaid peer (seen_at old peer).faults (seen_at new peer).faults done → HasAllPaid core peer done old new
@@ -345,6 +375,39 @@ counted_then core mid es fs disks between left is one two = record {
   later = falls_then disks between left one.later two.later;
   failed = rose_both false core mid es fs disks between left is one.failed two.failed;
 }
+
+-- ---- counts that stand
+
+-- an event that is no report, or nothing
+pub untold_same : (core : Core) (es : Events) (disks : List DiskSeen) → UntoldStand core es disks disks
+untold_same core es disks = λ disk none. refl
+
+-- the report of a job, where its call that failed is told
+pub untold_reported : (core : Core) (peer now : ℕ) (told : Done) (r : Result ⊤ ClusterFault) (old new : List DiskSeen) → AllStandUntold told old new → ran_out r ≡ false → UntoldStand core (done_of r (event.Report peer told, now)) old new
+untold_reported core peer now told r old new stands out = λ disk none.
+    let one : (if costs true disk core (event.Report peer told) then 1 else 0) + 0 ≡ 0 = subst (λ (b : Bool). failures true disk core (if b then [] else (event.Report peer told, now) ∷ []) ≡ 0) out none in
+    stands disk (λ fails. some_cost disk one fails)
+  where
+    cost_of : (disk : ℕ) → failed_disk told ≡ Some disk → costs true disk core (event.Report peer told) ≡ true
+    cost_of disk fails =
+        subst (λ o. (option_map_or (λ d. d == disk) o false && (true || not (option_map_or (only_reads disk) (first_job peer core) false))) ≡ true) (sym fails) (ap (λ b. b && true) (equal_number disk))
+
+    some_cost : (disk : ℕ) → (if costs true disk core (event.Report peer told) then 1 else 0) + 0 ≡ 0 → failed_disk told ≡ Some disk → ⊥
+    some_cost disk none fails =
+        let one : 1 + 0 ≡ 0 = subst (λ (b : Bool). (if b then 1 else 0) + 0 ≡ 0) (cost_of disk fails) none in
+        omega (arith, one)
+
+-- some behind others
+pub untold_then : (core mid : Core) (es fs : Events) (disks between left : List DiskSeen) → mid ≡ steps core es → UntoldStand core es disks between → UntoldStand mid fs between left → UntoldStand core (es ++ fs) disks left
+untold_then core mid es fs disks between left is one two = λ disk none.
+    let sum = sym (failures_append true disk core es fs) ∙ none in
+    two disk (ap (λ (c : Core). failures true disk c fs) is ∙ none_right (failures true disk core es) (failures true disk (steps core es) fs) sum) ∙ one disk (none_left (failures true disk core es) (failures true disk (steps core es) fs) sum)
+  where
+    none_left : (a b : ℕ) → a + b ≡ 0 → a ≡ 0
+    none_left a b h = omega (arith, h)
+
+    none_right : (a b : ℕ) → a + b ≡ 0 → b ≡ 0
+    none_right a b h = omega (arith, h)
 
 -- so from earlier disks too, where no count fell on the way
 pub counted_before : (core : Core) (es : Events) (first old new : List DiskSeen) → NoneFalls first old → AreCounted core es old new → AreCounted core es first new

@@ -119,6 +119,7 @@ its_copy_is_next = record {
   source = refl;
   follows = refl;
   unsealed = refl;
+  sealed = (kind.View 1, ap (λ l. numbered_entry l 1) sealed_is);
   added = added;
 }
   where

@@ -5,6 +5,7 @@ use Rattle.std.proofs.lemmas.List.{get_or_past, take_at}
 use Rattle.std.proofs.lemmas.List.Elements.{All-cons, All-nil}
 use Rattle.std.specs.List.{All, enumerate_from}
 use Rattle.std.specs.Prelude.{IsSome, OnOk, Result, Ok, Err, ⊤, take}
+use Rattle.hs_cluster.proofs.CachedLemmas.{none_cached}
 use Rattle.hs_cluster.proofs.CountLemmas.{rises_within}
 use Rattle.hs_cluster.proofs.EventLemmas.{still_going}
 use Rattle.hs_cluster.proofs.HeadLemmas.{header_shown, heads_next}
@@ -12,10 +13,11 @@ use Rattle.hs_cluster.proofs.OpenedLemmas.{shape_opens}
 use Rattle.hs_cluster.proofs.FoundLemmas.{begins_so, finds, found, opens_so, was_read}
 use Rattle.hs_cluster.proofs.OpeningMoves.{alone_sane, alone_whole, jobs_first, same_members, sealed_first}
 use Rattle.hs_cluster.proofs.StretchLemmas.{rises_to}
+use Rattle.hs_cluster.specs.Cached.{AreCached}
 use Rattle.hs_cluster.specs.Begins.{Begins, HasOpened, opened_with}
 use Rattle.hs_cluster.specs.Calls.{Does, ran_out}
 use Rattle.hs_cluster.specs.Calm.{GoesCalmly}
-use Rattle.hs_cluster.specs.Counts.{AreAllCounted, AreCounted}
+use Rattle.hs_cluster.specs.Counts.{AreAllCounted, AreCounted, UntoldStand}
 use Rattle.hs_cluster.specs.declared.fault.ClusterFault.{ClusterFault}
 use Rattle.hs_cluster.specs.Headed.{IsHeadedAt, IsOwnAt, KeepsHeads, LeavesHeads}
 use Rattle.hs_cluster.specs.Kept.{CanGoOn, CanRead, KeepsLogs, LeavesLists, ReadsLogs, sealed_front}
@@ -379,6 +381,10 @@ module _ (tells : Type 0) (set : Setting) (span : Span) (cluster : Running) (don
       subst (λ l. CanRead (open_whole set opened_found) l o.disks) (sym b.logs)
       (can_read tells set mid b.taken some one read b.shares b.count b.ticks b.disks b.left told going)
 
+  -- nothing is cached yet
+  uncached : (c : Whole) → AreCached c o.begun.cache
+  uncached c = none_cached c o.begun.cache b.uncached
+
   -- no disk failed before the first turn of a core that goes on
   calm_first : set.shape.copies ≡ 1 → (first_core set opened_found).ended ≡ None → GoesCalmly o.begun.core span.old o.disks
   calm_first one going = record {
@@ -402,7 +408,7 @@ module _ (tells : Type 0) (set : Setting) (span : Span) (cluster : Running) (don
       joined (open_whole set opened_found) o.turned.events span.before o.opened span.now span.old o.disks span.new o.begun cluster b.ticks o.turned.rises
       (read_earlier tells set mid b.taken some one read b.shares b.count b.ticks b.disks b.left told going sound)
       (read_moments tells set mid b.taken some one read b.shares b.count b.ticks b.disks b.left told going sound)
-      (o.turned.shows.lists told (open_whole set opened_found) core_is (can one told sound going))
+      (o.turned.shows.lists told (open_whole set opened_found) core_is (can one told sound going) (uncached (open_whole set opened_found)))
 
   -- a core that goes on behind the turns went on before
   began : (x : ⊤) → done ≡ Ok x → (first_core set opened_found).ended ≡ None
@@ -463,6 +469,15 @@ module _ (tells : Type 0) (set : Setting) (span : Span) (cluster : Running) (don
       by (Ok x) is =
           subst (λ r. OnOk r (CanRead (runs whole_machine (open_whole set opened_found) o.turned.events) cluster.logs span.new)) is
           (o.turned.shows.reads_on told (open_whole set opened_found) core_is (could_read one told (began x is)))
+
+  cached_on : set.shape.copies ≡ 1 → tells → OnOk done (AreCached (runs whole_machine (open_whole set opened_found) o.turned.events) cluster.cache)
+  cached_on one told = by done refl
+    where
+      by : (r : Result ⊤ ClusterFault) → done ≡ r → OnOk r (AreCached (runs whole_machine (open_whole set opened_found) o.turned.events) cluster.cache)
+      by (Err fault) is = tt
+      by (Ok x) is =
+          subst (λ r. OnOk r (AreCached (runs whole_machine (open_whole set opened_found) o.turned.events) cluster.cache)) is
+          (o.turned.shows.cached told (open_whole set opened_found) core_is (could_read one told (began x is)) (uncached (open_whole set opened_found)))
 
   -- ---- whose header
 
@@ -589,20 +604,23 @@ module _ (tells : Type 0) (set : Setting) (span : Span) (cluster : Running) (don
     course = o.turned.does.course ∙ (λ i. course_is i ++ items_of (sym core_is i) o.turned.events);
     falls = b.falls;
     counted = subst (λ x. AreCounted x o.turned.events o.disks span.new) (sym core_is) o.turned.shows.counted;
+    untold = λ out. subst (λ x. UntoldStand x o.turned.events o.disks span.new) (sym core_is) (o.turned.shows.untold out);
     rooms = subst (λ x. HaveRecordRoom x o.turned.events) (sym core_is) o.turned.does.rooms;
     calm = calm;
     past = past;
     still = λ ended. o.turned.still (subst (λ (x : Core). IsSome x.ended) core_is ended);
     lists = lists;
     goes_on = goes_on;
-    told = λ one told going. o.turned.shows.told told (open_whole set opened_found) core_is (could_read one told going);
+    told = λ one told going. o.turned.shows.told told (open_whole set opened_found) core_is (could_read one told going) (uncached (open_whole set opened_found));
     read = λ one told going stored.
         subst (λ x. AreAllCounted x o.turned.events o.disks span.new) (sym core_is)
         (o.turned.shows.read told (open_whole set opened_found) core_is (could_read one told going) stored);
     reads_on = reads_on;
+    cached = cached_on;
     owns = subst (λ l. OwnTheirLogs tells set.shape (log_at l)) (sym b.logs) b.owns;
     headed = heads_opened;
     peers = peers_kept;
     begins = sym core_is;
+    uncached = b.uncached;
     copies = λ told. o.turned.shows.copies told;
   }

@@ -163,30 +163,29 @@ tells_found list number entry E (Ok told) there h = tells_block list number h.0 
 -- it was not done
 pub leaves_err : {E : Type 0} (t : Try) (j : Job) (list : Numbered) (waiting : Option Entry) (result : Result Done E) (fault : E) → result ≡ Err fault → LeavesEach t.before t.now t.old t.new (IsOne list (list_after j list waiting)) → Leaves t j list waiting result
 leaves_err {E = E} t j list waiting result fault is moments =
-    subst (λ r. Leaves {E = E} t j list waiting r) (sym is) (record { moments = moments; log = tt; told = tt })
+    subst (λ r. Leaves {E = E} t j list waiting r) (sym is) (record { moments = moments; log = tt })
 
 -- it was
 pub leaves_ok : {E : Type 0} (t : Try) (j k : Job) (list : Numbered) (waiting : Option Entry) (done : Done) (keeping : Keeping) → j ≡ k → t.kept ≡ Some keeping → failed_disk done ≡ None
-    → LeavesEach t.before t.now t.old t.new (IsOne list (list_after j list waiting)) → HasLog keeping t.new (list_after k list waiting) (waiting_after k waiting) → TellsOf done (Some list) → Leaves {E = E} t j list waiting (Ok done)
-leaves_ok t j k list waiting done keeping is kept fine moments has told = record {
+    → LeavesEach t.before t.now t.old t.new (IsOne list (list_after j list waiting)) → HasLog keeping t.new (list_after k list waiting) (waiting_after k waiting) → Leaves {E = E} t j list waiting (Ok done)
+leaves_ok t j k list waiting done keeping is kept fine moments has = record {
   moments = moments;
   log = subst (λ o. LeavesLog o t j list waiting) (sym fine) (keeping, kept, subst (λ x. HasLog keeping t.new (list_after x list waiting) (waiting_after x waiting)) (sym is) has);
-  told = told;
 }
 
 -- it only read
 pub leaves_read : {E : Type 0} (now number : ℕ) (keeping : Keeping) (old new : Standing) (j : Job) (list : Numbered) (waiting : Option Entry) (result : Result Done E) → j ≡ job.Read number → new ≡ old → old.last ≤ now → Since old
-    → HasLog keeping old list waiting → IfOk result (λ done. failed_disk done ≡ None) → IfOk result (λ done. TellsOf done (Some list))
+    → HasLog keeping old list waiting → IfOk result (λ done. failed_disk done ≡ None)
     → Leaves {E = E} (record { before = now; now = now; slot = Some keeping; kept = Some keeping; old = old; new = new }) j list waiting result
-leaves_read {E = E} now number keeping old new j list waiting result is same last since has fine told =
-    subst (λ d. Leaves {E = E} (record { before = now; now = now; slot = Some keeping; kept = Some keeping; old = old; new = d }) j list waiting result) (sym same) (go result fine told)
+leaves_read {E = E} now number keeping old new j list waiting result is same last since has fine =
+    subst (λ d. Leaves {E = E} (record { before = now; now = now; slot = Some keeping; kept = Some keeping; old = old; new = d }) j list waiting result) (sym same) (go result fine)
   where
     moments : LeavesEach now now old old (IsOne list (list_after j list waiting))
     moments = stays_one old now list (list_after j list waiting) last since has.leaves
 
-    go : (r : Result Done E) → IfOk r (λ done. failed_disk done ≡ None) → IfOk r (λ done. TellsOf done (Some list)) → Leaves {E = E} (record { before = now; now = now; slot = Some keeping; kept = Some keeping; old = old; new = old }) j list waiting r
-    go (Err fault) fine told = leaves_err (record { before = now; now = now; slot = Some keeping; kept = Some keeping; old = old; new = old }) j list waiting (Err fault) fault refl moments
-    go (Ok done) fine told = leaves_ok (record { before = now; now = now; slot = Some keeping; kept = Some keeping; old = old; new = old }) j (job.Read number) list waiting done keeping is refl fine moments has told
+    go : (r : Result Done E) → IfOk r (λ done. failed_disk done ≡ None) → Leaves {E = E} (record { before = now; now = now; slot = Some keeping; kept = Some keeping; old = old; new = old }) j list waiting r
+    go (Err fault) fine = leaves_err (record { before = now; now = now; slot = Some keeping; kept = Some keeping; old = old; new = old }) j list waiting (Err fault) fault refl moments
+    go (Ok done) fine = leaves_ok (record { before = now; now = now; slot = Some keeping; kept = Some keeping; old = old; new = old }) j (job.Read number) list waiting done keeping is refl fine moments has
 
 -- ---- what reads give behind it
 

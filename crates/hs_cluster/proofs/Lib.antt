@@ -1,4 +1,5 @@
 pub mod BeginLemmas
+pub mod CachedLemmas
 pub mod CalmLemmas
 pub mod CopyLemmas
 pub mod CountLemmas
@@ -23,6 +24,7 @@ pub mod PeerLogLemmas
 pub mod PeerReportLemmas
 pub mod PeerShowLemmas
 pub mod ReadLemmas
+pub mod RecallLemmas
 pub mod ReportLemmas
 pub mod RoomLemmas
 pub mod RunLemmas

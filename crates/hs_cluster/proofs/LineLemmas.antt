@@ -130,10 +130,10 @@ runs_also name line asked before now old new r Kept Also f runs = record { event
 -- a line that is one event without a call, whatever the disks
 pub runs_quiet : (name : List ℕ → Address) (line : ℕ) (asked meant : Command) (now : ℕ) (old new : Running) (disks : List DiskSeen) (r : Result ⊤ ClusterFault) (e : Event) → asked ≡ meant
     → (BeginsWith (record { line = line; core = old.core; events = done_of r (e, now); whole = is_ok r }) e (λ core. None) → AreOfCommand name (record { line = line; core = old.core; events = done_of r (e, now); whole = is_ok r }) meant)
-    → report_in e ≡ None → old.core.ended ≡ None → Does (done_of r (e, now)) old new r → ((p : ℕ) (keeping : Keeping) → log_at new.logs p ≡ Some keeping → log_at old.logs p ≡ Some keeping) → ((p : ℕ) → SlotStays e old.logs new.logs p)
+    → report_in e ≡ None → old.core.ended ≡ None → Does (done_of r (e, now)) old new r → ((p : ℕ) (keeping : Keeping) → log_at new.logs p ≡ Some keeping → log_at old.logs p ≡ Some keeping) → ((p : ℕ) → SlotStays e old.logs new.logs p) → new.cache ≡ old.cache
     → RunsLine name line asked now now old new r (Shows ⊤ (record { before = now; now = now; old = old; new = new; disks = disks; left = disks }) r)
-runs_quiet name line asked meant now old new disks r e same is quiet was does less stays =
-    let kept = quiet_shows e now old new disks r quiet was does less stays in
+runs_quiet name line asked meant now old new disks r e same is quiet was does less stays cache =
+    let kept = quiet_shows e now old new disks r quiet was does less stays cache in
     subst (λ c. RunsLine name line c now now old new r (Shows ⊤ (record { before = now; now = now; old = old; new = new; disks = disks; left = disks }) r)) (sym same)
     (runs_one name line meant now now old new r e now (Shows ⊤ (record { before = now; now = now; old = old; new = new; disks = disks; left = disks }) r) is (omega arith) (omega arith) does kept)
 

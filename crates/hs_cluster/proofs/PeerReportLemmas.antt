@@ -36,7 +36,7 @@ use Rattle.hs_moments.specs.WholeMachine.{IsFrontOf, last_of, whole_machine}
 use Rattle.hs_moments.specs.Working.{NextJob}
 use Rattle.hs_peerlog.specs.Heads.{LeavesHeader}
 use Rattle.hs_peerlog.specs.Images.{GivesList, IsOne, LeavesAny, LeavesEach}
-use Rattle.hs_peerlog.specs.Lists.{HasLog, Keeping}
+use Rattle.hs_peerlog.specs.Lists.{HasLog, IsKept, Keeping}
 use Rattle.hs_ports.specs.declared.disk.Side.{Side}
 use Rattle.hs_ports.specs.Disk.{Standing}
 use Rattle.hs_ports.specs.Moments.{disk_at}
@@ -383,11 +383,13 @@ module _ (c : Whole) (w : Working) (steady : IsSteady c) (is : IsPeer c.core.mem
 
   module _ (told : Done) (at : ℕ) (E : Type 0) (works : Works {E = E} head w (first_job w.peer c.core) (Ok told)) (answer : is_answer c.core w.peer told ≡ true) where
     -- what it tells of a block is so of what is sealed
-    pub peers_told : TellsOf told (Some front)
-    peers_told = go (first_job w.peer c.core) refl
+    pub peers_told : (is_own (first_job w.peer c.core) ≡ true → ((keeping : Keeping) → log_at w.logs w.peer ≡ Some keeping → IsKept keeping ((disk_at (stands_of w.disks) w.peer).seen keeping.log.side) front waits) → TellsOf told (Some front))
+        → TellsOf told (Some front)
+    peers_told tells = go (first_job w.peer c.core) refl
       where
         own : (j : Job) → is_own (Some j) ≡ true → first_job w.peer c.core ≡ Some j → IsNextOwn c w.peer j → TellsOf told (Some front)
-        own j is_one first next = (own_leaves {E = E} j next (Ok told) works is_one first).told
+        own j is_one first next = tells (ap is_own first ∙ is_one)
+            (λ keeping at. subst (λ (k : Keeping). IsKept k ((disk_at (stands_of w.disks) w.peer).seen k.log.side) front waits) (some_is (log_own j next).keeping keeping (sym (log_own j next).used ∙ at)) (log_own j next).has.kept)
 
         by : (j : Job) → first_job w.peer c.core ≡ Some j → AsksFor c w.peer j → TellsOf told (Some front)
         by (job.Append number entry) first next = own (job.Append number entry) refl first next

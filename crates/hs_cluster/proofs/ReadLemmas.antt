@@ -5,7 +5,7 @@ use Rattle.std.specs.Option.{option_map_or}
 use Rattle.std.specs.Prelude.{IsSome}
 use Rattle.hs_cluster.proofs.HeldLemmas.{HasKept, done_is, sealed_beside, sealed_stays}
 use Rattle.hs_cluster.specs.Disks.{DiskSeen, log_at, stands_of}
-use Rattle.hs_cluster.specs.Jobs.{ReadsLog, ReadsOn, list_after}
+use Rattle.hs_cluster.specs.Jobs.{ReadsLog, list_after}
 use Rattle.hs_cluster.specs.Kept.{CanGoOn, CanRead, ReadsLogs, sealed_front}
 use Rattle.hs_core_words.specs.declared.event.Event.{Event}
 use Rattle.hs_core_words.specs.declared.event.Event.TheVariants as event
@@ -71,7 +71,7 @@ quiet_reads c e now logs fewer disks sane was quiet going less reads = record {
 -- the report of a job
 module _ (c : Whole) (peer at : ℕ) (logs after : List (Option Keeping)) (disks left : List DiskSeen) (sane : IsSane c) (is : IsPeer c.core.members.shape peer) (reads : ReadsLogs c logs disks) (done : Done) (answer : is_answer c.core peer done ≡ true)
     (j : Job) (first : first_job peer c.core ≡ Some j) (had : IsSome (log_at logs peer))
-    (own_reads : ReadsOn (log_at after peer) (disk_at (stands_of left) peer) j (sealed_front c peer) (appended_of peer c.core) done)
+    (own_reads : ReadsLog (failed_disk done) (log_at after peer) (disk_at (stands_of left) peer) j (sealed_front c peer) (appended_of peer c.core))
     (others_logs : (p : ℕ) → p ≢ peer → log_at after p ≡ log_at logs p) (others : (p : ℕ) → p ≢ peer → disk_at (stands_of left) p ≡ disk_at (stands_of disks) p)
     (was : c.core.ended ≡ None) (going : (step (event.Report peer done) at c.core).ended ≡ None) where
   abbrev new : Whole
@@ -98,7 +98,7 @@ module _ (c : Whole) (peer at : ℕ) (logs after : List (Option Keeping)) (disks
   own : (p : ℕ) (keeping : Keeping) → p ≡ peer → log_at after p ≡ Some keeping → IsKept keeping ((disk_at (stands_of left) p).seen keeping.log.side) (sealed_front new p) (appended_of p new.core)
   own p keeping same kept =
       subst (λ q. IsKept keeping ((disk_at (stands_of left) q).seen keeping.log.side) (sealed_front new q) (appended_of q new.core)) (sym same)
-      (own_log keeping (ap (λ q. log_at after q) (sym same) ∙ kept) (failed_disk done) refl own_reads.log)
+      (own_log keeping (ap (λ q. log_at after q) (sym same) ∙ kept) (failed_disk done) refl own_reads)
 
   other : (p : ℕ) (keeping : Keeping) → p ≢ peer → IsPeer c.core.members.shape p → log_at after p ≡ Some keeping → IsKept keeping ((disk_at (stands_of left) p).seen keeping.log.side) (sealed_front new p) (appended_of p new.core)
   other p keeping differs low kept =

@@ -17,7 +17,6 @@ use Rattle.hs_events.proofs.GoingLemmas.{step_goes}
 use Rattle.hs_events.specs.Asked.{failed_disk}
 use Rattle.hs_events.specs.Course.{is_refused}
 use Rattle.hs_events.specs.Due.{is_answer}
-use Rattle.hs_events.specs.Reports.{TellsOf}
 use Rattle.hs_events.specs.Whole.{Whole, counts, step_whole}
 use Rattle.hs_fold.specs.Shards.Setting.{Numbered}
 use Rattle.hs_limits.specs.declared.shape.Shape.{Shape}
@@ -144,9 +143,6 @@ module _ (c : Whole) (w : Working) (sane : IsSane c) (is : IsPeer c.core.members
 
     kept_by : HasKept c w.peer
     kept_by = record { keeping = did.keeping; seen = (disk_at (stands_of w.disks) w.peer).seen did.keeping.log.side; kept = did.has.kept }
-
-    pub report_told : TellsOf done (Some list)
-    report_told = did.leaves.told
 
     pub report_fine : is_refused (step (event.Report w.peer done) at c.core).ended ≡ false → (image : Side → List ℕ) → IsStanding (disk_at (stands_of w.left) w.peer) image → Fine after image
     report_fine there image stands = go (failed_disk done) refl did.leaves.log

@@ -1,10 +1,13 @@
 -- A run on disks goes on: from its opening, by the events of a line, and while the watch alone ticks.
 use Rattle.std.proofs.Common.{◌≡◌, ◌∙◌, inl, inr, ap, sym, subst, ℕ, suc, ◌+◌, ◌-◌, ◌^◌, ◌<◌, ◌≤◌, Bool, true, false, List, [], ◌∷◌, ◌++◌, length, None, refl, arith, nat_lt}
-use Rattle.std.proofs.lemmas.Bool.{cases_lt, ne_eqb}
+use Rattle.std.proofs.lemmas.Bool.{cases_lt, false≢true, ne_eqb}
+use Rattle.std.proofs.lemmas.List.{get_or_past}
 use Rattle.std.proofs.lemmas.List.Sums.{sum_by-cons}
 use Rattle.std.specs.List.{AllPairs}
-use Rattle.std.specs.Prelude.{◌==◌, ⊤, Contains, OnOk, Result, Ok, Err, cond, count_by, if◌then◌else◌, slice_index_or}
-use Rattle.hs_cluster.proofs.CountLemmas.{all_then, counted_before, counted_then, rose_none, rose_then}
+use Rattle.std.specs.Prelude.{◌==◌, ⊤, Contains, OnOk, Result, Ok, Err, cond, count_by, if◌then◌else◌, slice_index_or, Option}
+use Rattle.hs_cluster.proofs.CountLemmas.{all_then, counted_before, counted_then, failures_append, rose_none, rose_then}
+use Rattle.hs_cache.specs.Cached.{Cached, pairs_of}
+use Rattle.hs_cluster.proofs.CachedLemmas.{empty_cached, none_cached}
 use Rattle.hs_cluster.proofs.GoingOnLemmas.{going_before}
 use Rattle.hs_cluster.proofs.HeadLemmas.{header_wait, heads_behind, heads_next}
 use Rattle.hs_cluster.proofs.OpenedLemmas.{opens_so}
@@ -13,7 +16,10 @@ use Rattle.hs_cluster.proofs.PeerShowLemmas.{steady_back, steady_front}
 use Rattle.hs_cluster.proofs.RoomLemmas.{rooms_then}
 use Rattle.hs_cluster.proofs.StretchLemmas.{lists_then, rises_to, runs_append, runs_core, steps_shape, stored_back, stored_front, told_then}
 use Rattle.hs_cluster.proofs.TurnedLemmas.{not_ended}
+use Rattle.hs_cluster.specs.Calls.{ran_out}
+use Rattle.hs_cluster.specs.Cached.{AreCached}
 use Rattle.hs_cluster.specs.Calm.{GoesCalmly}
+use Rattle.hs_cluster.specs.Counts.{AreAllCounted}
 use Rattle.hs_cluster.specs.declared.fault.ClusterFault.{ClusterFault}
 use Rattle.hs_cluster.specs.Disks.{DiskSeen, seen_at, stands_of}
 use Rattle.hs_cluster.specs.Headed.{IsHeadedAt, IsOwnAt, LeavesHeads}
@@ -23,13 +29,14 @@ use Rattle.hs_cluster.specs.Past.{HoldsLog, LeavesPast}
 use Rattle.hs_cluster.specs.PeerLogs.{KeepsPeers}
 use Rattle.hs_cluster.specs.Rooms.{HaveRecordRoom}
 use Rattle.hs_cluster.specs.Running.{Running}
-use Rattle.hs_cluster.specs.RunsOn.{CanRunOn, RunsOn}
+use Rattle.hs_cluster.specs.RunsOn.{CanRunOn, RunsOn, StandUntold}
 use Rattle.hs_cluster.specs.Steady.{AreSteady}
 use Rattle.hs_core_words.specs.State.{Core}
 use Rattle.hs_events.specs.Course.{happened, steps}
 use Rattle.hs_events.specs.Due.{Events, MomentsRise}
-use Rattle.hs_events.specs.Found.{Found, first_core, opens_with}
+use Rattle.hs_events.specs.Found.{Found, first_core, opens_with, starts_good}
 use Rattle.hs_events.specs.Reports.{failures}
+use Rattle.hs_events.specs.Taken.{peer_count}
 use Rattle.hs_events.specs.Whole.{Whole, counts, open_whole}
 use Rattle.hs_fold.specs.Images.{IsLeft}
 use Rattle.hs_fold.specs.Shards.Setting.{Setting}
@@ -50,6 +57,16 @@ use Rattle.hs_taking.specs.Shares.{IsLater, Span as Taking}
 
 -- ---- opening
 
+-- no count rose but of a disk that is told of, or whose peer was not good
+pub untold_opened : (tells : Type 0) (set : Setting) (s : Taking) (cluster : Running) (done : Result ⊤ ClusterFault) (o : Opens tells set s cluster done) → ran_out done ≡ false → StandUntold set o.found o.events s.old s.new
+untold_opened tells set s cluster done o out = λ disk good none. o.untold out disk none ∙ (o.finds.each disk (low disk good)).calm good
+  where
+    low : (disk : ℕ) → starts_good o.found disk ≡ true → disk < peer_count set.shape
+    low disk good = elim (cases_lt disk (peer_count set.shape)) [
+      | inl less ↦ less
+      | inr high ↦ absurd (false≢true (sym (get_or_past o.found.good disk false (let goods = o.finds.goods in omega (arith, goods, high))) ∙ good))
+    ]
+
 -- from entry to behind its turns
 abbrev pub opening_span : Taking → Running → Running → Span
 opening_span s begun cluster = record { before = s.before; now = s.now; old = begun; new = cluster; disks = s.old; left = s.new }
@@ -69,11 +86,13 @@ runs_opened tells set s cluster done o = record {
   lists = o.lists;
   told = o.told;
   read = o.read;
-  copies = λ told called c opens steady. (o.copies told).lists c (opens.core ∙ sym o.begins) steady (o.peers told called c opens);
+  copies = λ told called c opens steady. (o.copies told).lists c (opens.core ∙ sym o.begins) steady (o.peers told called c opens) (none_cached c o.begun.cache o.uncached);
+  reads = λ told called c opens steady stored.
+      subst (λ x. AreAllCounted x o.events o.disks s.new) o.begins ((o.copies told).read c (opens.core ∙ sym o.begins) steady (o.peers told called c opens) stored);
 }
 
 pub can_opened : (tells : Type 0) (set : Setting) (s : Taking) (cluster : Running) (done : Result ⊤ ClusterFault) (o : Opens tells set s cluster done) → OnOk done (CanRunOn tells set (opening_span s o.begun cluster) o.found o.events)
-can_opened tells set s cluster (Ok tt) o = record { calm = o.calm; holds = λ one told peer last. (o.past one told peer last).holds; owns = λ told peer own. heads_behind (own_header set.shape peer) s.before s.now s.old s.new cluster.logs peer (o.headed told peer own); goes = λ one told sound. o.goes_on one told sound; reads = λ one told. o.reads_on one told; keeps = λ told called c opens steady. (o.copies told).goes_on c (opens.core ∙ sym o.begins) steady (o.peers told called c opens) }
+can_opened tells set s cluster (Ok tt) o = record { untold = untold_opened tells set s cluster (Ok tt) o refl; calm = o.calm; holds = λ one told peer last. (o.past one told peer last).holds; owns = λ told peer own. heads_behind (own_header set.shape peer) s.before s.now s.old s.new cluster.logs peer (o.headed told peer own); goes = λ one told sound. o.goes_on one told sound; reads = λ one told. o.reads_on one told; cached = λ one told. o.cached one told; keeps = λ told called c opens steady. (o.copies told).goes_on c (opens.core ∙ sym o.begins) steady (o.peers told called c opens); keeps_cached = λ told called c opens steady. (o.copies told).cached c (opens.core ∙ sym o.begins) steady (o.peers told called c opens) (none_cached c o.begun.cache o.uncached) }
 can_opened tells set s cluster (Err fault) o = tt
 
 -- ---- the events of a line
@@ -107,7 +126,7 @@ module _ (tells : Type 0) (set : Setting) (found : Found) (before mid now : ℕ)
 
   lists : set.shape.copies ≡ 1 → tells → LeaveOneList before disks → (first_core set found).ended ≡ None → LeavesLists c (es ++ fs) (record { before = before; now = now; old = begun; new = new; disks = disks; left = left })
   lists alone told sound first =
-      lists_then c es fs before mid now begun here new disks between left goes rise on (so_far.lists alone told sound first) (shows.lists told behind behind_core (can.goes alone told sound))
+      lists_then c es fs before mid now begun here new disks between left goes rise on (so_far.lists alone told sound first) (shows.lists told behind behind_core (can.goes alone told sound) (can.cached alone told))
 
   past : set.shape.copies ≡ 1 → tells → (peer : ℕ) → (disk_at (stands_of disks) peer).last ≤ before → LeavesPast before now disks left new.logs r peer
   past one told peer last = leaves_then before mid now disks between left new.logs r peer (so_far.past one told peer last) (shows.past told disks (can.calm one) peer (can.holds one told peer last))
@@ -131,12 +150,34 @@ module _ (tells : Type 0) (set : Setting) (found : Found) (before mid now : ℕ)
     x_lists : LeavesLists x (es ++ fs) (record { before = found.opened; now = now; old = begun; new = new; disks = so_far.disks; left = left })
     x_lists =
         lists_then x es fs found.opened mid now begun here new so_far.disks between left x_goes rises on (so_far.copies told called x opens x_front)
-        ((shows.copies told).lists (runs whole_machine x es) x_core (steady_back x es fs steady) (can.keeps told called x opens x_front))
+        ((shows.copies told).lists (runs whole_machine x es) x_core (steady_back x es fs steady) (can.keeps told called x opens x_front) (can.keeps_cached told called x opens x_front))
 
     x_keeps : OnOk r (KeepsPeers (runs whole_machine x (es ++ fs)) new.logs left now)
     x_keeps =
         subst (λ s. OnOk r (KeepsPeers s new.logs left now)) (sym (runs_append x es fs))
         ((shows.copies told).goes_on (runs whole_machine x es) x_core (steady_back x es fs steady) (can.keeps told called x opens x_front))
+
+    x_reads : AreStored x (es ++ fs) → AreAllCounted (first_core set found) (es ++ fs) so_far.disks left
+    x_reads stored =
+        all_then (first_core set found) here.core es fs so_far.disks between left core (so_far.reads told called x opens x_front (stored_front x es fs stored))
+        ((shows.copies told).read (runs whole_machine x es) x_core (steady_back x es fs steady) (can.keeps told called x opens x_front) (stored_back x es fs stored))
+
+    x_cached : OnOk r (AreCached (runs whole_machine x (es ++ fs)) new.cache)
+    x_cached =
+        subst (λ s. OnOk r (AreCached s new.cache)) (sym (runs_append x es fs))
+        ((shows.copies told).cached (runs whole_machine x es) x_core (steady_back x es fs steady) (can.keeps told called x opens x_front) (can.keeps_cached told called x opens x_front))
+
+  pub untold_more : ran_out r ≡ false → StandUntold set found (es ++ fs) disks left
+  untold_more out = λ disk good none.
+      let sum = sym (failures_append true disk (first_core set found) es fs) ∙ none in
+      shows.untold out disk (ap (λ x. failures true disk x fs) core ∙ none_right (failures true disk (first_core set found) es) (failures true disk (steps (first_core set found) es) fs) sum)
+      ∙ can.untold disk good (none_left (failures true disk (first_core set found) es) (failures true disk (steps (first_core set found) es) fs) sum)
+    where
+      none_left : (a b : ℕ) → a + b ≡ 0 → a ≡ 0
+      none_left a b h = omega (arith, h)
+
+      none_right : (a b : ℕ) → a + b ≡ 0 → b ≡ 0
+      none_right a b h = omega (arith, h)
 
   pub runs_more : RunsOn tells set (record { before = before; now = now; old = begun; new = new; disks = disks; left = left }) found (es ++ fs)
   runs_more = record {
@@ -151,31 +192,38 @@ module _ (tells : Type 0) (set : Setting) (found : Found) (before mid now : ℕ)
     headed = λ told peer own. (heads told peer own).disk;
     rooms = rooms_then (first_core set found) es fs so_far.rooms (subst (λ x. HaveRecordRoom x fs) core rooms);
     lists = lists;
-    told = λ one told first. told_then c es fs (so_far.told one told first) (shows.told told behind behind_core (can.reads one told));
+    told = λ one told first. told_then c es fs (so_far.told one told first) (shows.told told behind behind_core (can.reads one told) (can.cached one told));
     read = λ one told first stored.
         all_then (first_core set found) here.core es fs so_far.disks between left core (so_far.read one told first (stored_front c es fs stored))
         (shows.read told behind behind_core (can.reads one told) (stored_back c es fs stored));
     copies = x_lists;
+    reads = x_reads;
   }
 
   pub can_more : OnOk r (CanRunOn tells set (record { before = before; now = now; old = begun; new = new; disks = disks; left = left }) found (es ++ fs))
   can_more =
       by r (λ one. shows.calm disks (can.calm one)) (λ one told peer last. (past one told peer last).holds) heads (λ one told sound. shows.goes_on told behind behind_core (can.goes one told sound))
-      (λ one told. shows.reads_on told behind behind_core (can.reads one told)) x_keeps
+      (λ one told. shows.reads_on told behind behind_core (can.reads one told)) x_keeps (λ one told. shows.cached told behind behind_core (can.reads one told) (can.cached one told)) x_cached untold_more
     where
       by : (r : Result ⊤ ClusterFault) → (set.shape.copies ≡ 1 → OnOk r (GoesCalmly new.core disks left)) → (set.shape.copies ≡ 1 → tells → (peer : ℕ) → (disk_at (stands_of disks) peer).last ≤ before → OnOk r (HoldsLog now new.logs left peer))
           → (tells → (peer : ℕ) → IsOwnAt set.shape before disks peer → LeavesHeads (own_header set.shape peer) before now disks left new.logs r peer)
           → (set.shape.copies ≡ 1 → tells → LeaveOneList before disks → OnOk r (CanGoOn (runs whole_machine behind fs) new.logs left now)) → (set.shape.copies ≡ 1 → tells → OnOk r (CanRead (runs whole_machine behind fs) new.logs left))
           → (tells → ((peer : ℕ) → (seen_at disks peer).stands.last ≤ before) → (x : Whole) → OpensLists set found x → AreSteady x (es ++ fs) → OnOk r (KeepsPeers (runs whole_machine x (es ++ fs)) new.logs left now))
+          → (set.shape.copies ≡ 1 → tells → OnOk r (AreCached (runs whole_machine behind fs) new.cache))
+          → (tells → ((peer : ℕ) → (seen_at disks peer).stands.last ≤ before) → (x : Whole) → OpensLists set found x → AreSteady x (es ++ fs) → OnOk r (AreCached (runs whole_machine x (es ++ fs)) new.cache))
+          → (ran_out r ≡ false → StandUntold set found (es ++ fs) disks left)
           → OnOk r (CanRunOn tells set (record { before = before; now = now; old = begun; new = new; disks = disks; left = left }) found (es ++ fs))
-      by (Err fault) calm holds own h g k = tt
-      by (Ok tt) calm holds own h g k = record {
+      by (Err fault) calm holds own h g k p q u = tt
+      by (Ok tt) calm holds own h g k p q u = record {
+        untold = u refl;
         calm = calm;
         holds = holds;
         owns = λ told peer is. heads_behind (own_header set.shape peer) before now disks left new.logs peer (own told peer is);
         goes = λ one told sound. subst (λ s. CanGoOn s new.logs left now) (sym (runs_append c es fs)) (h one told sound);
         reads = λ one told. subst (λ s. CanRead s new.logs left) (sym (runs_append c es fs)) (g one told);
+        cached = λ one told. subst (λ s. AreCached s new.cache) (sym (runs_append c es fs)) (p one told);
         keeps = k;
+        keeps_cached = q;
       }
 
 -- ---- time alone
@@ -226,12 +274,14 @@ runs_later tells set found before now later begun cluster disks left es ticks ri
   told = so_far.told;
   read = so_far.read;
   copies = λ told called x opens steady. lists_later x es found.opened now later begun cluster so_far.disks left ticks rises (since told) (so_far.copies told called x opens steady);
+  reads = so_far.reads;
 }
 
 pub can_later : (tells : Type 0) (set : Setting) (found : Found) (before now later : ℕ) (begun cluster : Running) (disks left : List DiskSeen) (es : Events) → now ≤ later
     → CanRunOn tells set (record { before = before; now = now; old = begun; new = cluster; disks = disks; left = left }) found es
     → CanRunOn tells set (record { before = before; now = later; old = begun; new = cluster; disks = disks; left = left }) found es
 can_later tells set found before now later begun cluster disks left es ticks can = record {
+  untold = can.untold;
   calm = can.calm;
   holds = λ one told peer last.
       let so_far = can.holds one told peer last in
@@ -247,9 +297,52 @@ can_later tells set found before now later begun cluster disks left es ticks can
         keeps = later-keeps whole_machine (runs whole_machine (open_whole set found) es) now later (stands_of left) ticks so_far.keeps;
       };
   reads = can.reads;
+  cached = can.cached;
   keeps = λ told called x opens steady.
       let so_far = can.keeps told called x opens steady in
       record { listed = so_far.listed; keeps = later-keeps whole_machine (runs whole_machine x es) now later (stands_of left) ticks so_far.keeps; headed = so_far.headed };
+  keeps_cached = can.keeps_cached;
+}
+
+-- ---- another cache, in which nothing is kept
+
+lists_beside : (c : Whole) (es : Events) (before now : ℕ) (begun cluster other : Running) (disks left : List DiskSeen) → LeavesLists c es (record { before = before; now = now; old = begun; new = cluster; disks = disks; left = left })
+    → LeavesLists c es (record { before = before; now = now; old = begun; new = other; disks = disks; left = left })
+lists_beside c es before now begun cluster other disks left h = record { earlier = h.earlier; moments = h.moments; keeps = h.keeps; told = h.told }
+
+-- what was shown so far is so whatever the cluster is then
+pub runs_beside : (tells : Type 0) (set : Setting) (found : Found) (before now : ℕ) (begun cluster other : Running) (disks left : List DiskSeen) (es : Events)
+    → RunsOn tells set (record { before = before; now = now; old = begun; new = cluster; disks = disks; left = left }) found es
+    → RunsOn tells set (record { before = before; now = now; old = begun; new = other; disks = disks; left = left }) found es
+runs_beside tells set found before now begun cluster other disks left es so_far = record {
+  slots = so_far.slots;
+  disks = so_far.disks;
+  finds = so_far.finds;
+  own = so_far.own;
+  falls = so_far.falls;
+  counted = so_far.counted;
+  rooms = so_far.rooms;
+  still = so_far.still;
+  past = so_far.past;
+  headed = so_far.headed;
+  lists = λ one told sound first. lists_beside (open_whole set found) es before now begun cluster other disks left (so_far.lists one told sound first);
+  told = so_far.told;
+  read = so_far.read;
+  copies = λ told called x opens steady. lists_beside x es found.opened now begun cluster other so_far.disks left (so_far.copies told called x opens steady);
+}
+
+pub can_cache : (tells : Type 0) (set : Setting) (found : Found) (before now : ℕ) (begun cluster : Running) (cache : Option Cached) (disks left : List DiskSeen) (es : Events) → pairs_of cache ≡ []
+    → CanRunOn tells set (record { before = before; now = now; old = begun; new = cluster; disks = disks; left = left }) found es
+    → CanRunOn tells set (record { before = before; now = now; old = begun; new = record cluster { cache = cache }; disks = disks; left = left }) found es
+can_cache tells set found before now begun cluster cache disks left es none can = record {
+  calm = can.calm;
+  holds = can.holds;
+  owns = can.owns;
+  goes = can.goes;
+  reads = can.reads;
+  cached = λ one told. empty_cached (runs whole_machine (open_whole set found) es) cache none;
+  keeps = can.keeps;
+  keeps_cached = λ told called x opens steady. empty_cached (runs whole_machine x es) cache none;
 }
 
 -- ---- failed calls from entry on
@@ -291,12 +384,12 @@ lost_before tells set s found es on told disk =
     (λ x among same. subst (λ p. HasRisen (seen_at s.disks p).faults (seen_at on.disks p).faults) same ((on.finds.lost x among).disk.failed told)) on.finds.once
 
 -- those of opening's reading, with those that the reports tell
-pub all_failed : (tells : Type 0) (set : Setting) (s : Span) (found : Found) (es : Events) → RunsOn tells set s found es → set.shape.copies ≡ 1 → tells → (first_core set found).ended ≡ None → AreStored (open_whole set found) es
+pub all_failed : (tells : Type 0) (set : Setting) (s : Span) (found : Found) (es : Events) (on : RunsOn tells set s found es) → tells → AreAllCounted (first_core set found) es on.disks s.left
     → (disk : ℕ) → RoseBy (failures true disk (first_core set found) es + count_by (λ x. x.0 == disk) found.lost) (seen_at s.disks disk).faults (seen_at s.left disk).faults
-all_failed tells set s found es on one told first stored = λ disk.
+all_failed tells set s found es on told counted = λ disk.
     subst (λ n. RoseBy n (seen_at s.disks disk).faults (seen_at s.left disk).faults) (swapped (count_by (λ x. x.0 == disk) found.lost) (failures true disk (first_core set found) es))
     (rose_then (2 ^ 64 - 1) (seen_at s.disks disk).faults (seen_at on.disks disk).faults (seen_at s.left disk).faults (count_by (λ x. x.0 == disk) found.lost) (failures true disk (first_core set found) es)
-    (lost_before tells set s found es on told disk) (on.read one told first stored disk))
+    (lost_before tells set s found es on told disk) (counted disk))
   where
     swapped : (a b : ℕ) → a + b ≡ b + a
     swapped a b = omega arith

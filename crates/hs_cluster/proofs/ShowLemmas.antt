@@ -1,27 +1,30 @@
 -- What events show of the disks: one event, and one run of them behind another.
 use Rattle.std.proofs.Common.{◌≡◌, ◌∙◌, ap, sym, subst, ℕ, ◌≤◌, Bool, true, false, List, [], ◌∷◌, ◌++◌, Option, Some, None, refl, arith}
+use Rattle.std.proofs.lemmas.Bool.{true≢false}
 use Rattle.std.specs.Prelude.{IsSome, OnOk, Result, Ok, Err, ⊤, if◌then◌else◌}
+use Rattle.hs_cluster.proofs.CachedLemmas.{cached_as, cached_blocks, cached_read, quiet_cached, report_cached, sane_effect}
 use Rattle.hs_cluster.proofs.CalmLemmas.{calm_one, calm_reported}
-use Rattle.hs_cluster.proofs.CountLemmas.{all_none, all_one, all_quiet, all_still, all_then, counted_none, counted_one, counted_quiet, counted_still, counted_then}
+use Rattle.hs_cluster.proofs.CountLemmas.{all_none, all_one, all_quiet, all_still, all_then, counted_none, counted_one, counted_quiet, counted_still, counted_then, untold_reported, untold_same, untold_then}
 use Rattle.hs_cluster.proofs.EventLemmas.{still_going}
 use Rattle.hs_cluster.proofs.HeadLemmas.{heads_behind, heads_cut, heads_next, heads_quiet, heads_shown}
 use Rattle.hs_cluster.proofs.PastLemmas.{Worked, job_past, leaves_then, on_any, own_first, past_quiet}
 use Rattle.hs_cluster.proofs.PeerEventLemmas.{SlotStays}
-use Rattle.hs_cluster.proofs.PeerShowLemmas.{begin_lists, cut_lists, job_cut_lists, job_lists, lists_behind, none_lists, quiet_lists}
-use Rattle.hs_cluster.proofs.ReadLemmas.{quiet_reads, report_reads, some_job}
+use Rattle.hs_cluster.proofs.PeerShowLemmas.{PaysFor, begin_lists, cut_lists, job_cut_lists, job_lists, lists_behind, none_lists, quiet_lists}
+use Rattle.hs_cluster.proofs.ReadLemmas.{quiet_reads, report_reads, some_job, read_of}
 use Rattle.hs_cluster.proofs.ReportLemmas.{call_fine, report_fine, report_logs, report_told}
 pub use Rattle.hs_cluster.proofs.StretchLemmas.{runs_core}
 use Rattle.hs_cluster.proofs.StretchLemmas.{steps_shape, behind, call_earlier, call_keeps, call_lists, call_moments, lists_then, none_yet, runs_append, step_going, stored_back, stored_front, told_by, told_then}
 use Rattle.hs_moments.proofs.SaneLemmas.{growing_beside, growing_without_call, sane_stays}
 use Rattle.hs_cluster.proofs.HeldLemmas.{own_job, sealed_stays}
+use Rattle.hs_cluster.specs.Cached.{AreBlocks, AreCached, KeepsRead}
 use Rattle.hs_cluster.specs.Calls.{Does, done_of, outcome_by, ran_out}
 use Rattle.hs_cluster.specs.Calm.{GoesCalmly}
 use Rattle.hs_cluster.specs.declared.fault.ClusterFault.{ClusterFault}
 use Rattle.hs_cluster.specs.declared.fault.ClusterFault.TheVariants.{NoMemory}
-use Rattle.hs_cluster.specs.Counts.{AllStandUntold, AreAllCounted, HasAllPaid, HasPaid, NoneFalls}
+use Rattle.hs_cluster.specs.Counts.{AllStandUntold, AreAllCounted, HasPaid, NoneFalls}
 use Rattle.hs_cluster.specs.Disks.{DiskSeen, log_at, stands_of}
 use Rattle.hs_cluster.specs.Headed.{IsHeadedAt, LeavesHeads, StaysHeadedAt}
-use Rattle.hs_cluster.specs.Jobs.{HasStored, ReadsOn, TellsBytes, Working, Works, WorksAlone, is_own}
+use Rattle.hs_cluster.specs.Jobs.{HasStored, ReadsLog, TellsBytes, Working, Works, WorksAlone, is_own}
 use Rattle.hs_cluster.specs.Kept.{AreStored, CanGoOn, CanRead, IsTold, KeepsLogs, ReadsLogs, Shows, Span, sealed_front}
 use Rattle.hs_cluster.specs.Past.{HoldsLog, LeavesPast}
 use Rattle.hs_cluster.specs.Rooms.{HaveRecordRoom}
@@ -29,7 +32,7 @@ use Rattle.hs_cluster.specs.Running.{Running}
 use Rattle.hs_events.specs.Sane.{IsSane, appended_of}
 use Rattle.hs_core_words.specs.declared.event.Event.{Event}
 use Rattle.hs_core_words.specs.declared.event.Event.TheVariants as event
-use Rattle.hs_core_words.specs.Looking.{catalogue_of, first_job, home}
+use Rattle.hs_core_words.specs.Looking.{catalogue_of, first_job, front_of, home}
 use Rattle.hs_core_words.specs.State.{Core}
 use Rattle.hs_core_words.specs.Step.{step}
 use Rattle.hs_desk.specs.declared.done.Done.{Done}
@@ -37,9 +40,10 @@ use Rattle.hs_desk.specs.declared.job.Job.{Job}
 use Rattle.hs_desk.specs.declared.job.Job.TheVariants as job
 use Rattle.hs_entry.specs.declared.entry.Entry.{Entry}
 use Rattle.hs_events.proofs.GoingLemmas.{step_goes}
-use Rattle.hs_events.specs.Asked.{report_in}
+use Rattle.hs_events.specs.Asked.{failed_disk, report_in}
 use Rattle.hs_events.specs.Course.{happened, is_refused, items_of, steps}
 use Rattle.hs_events.specs.Due.{Events, MomentsRise, is_answer}
+use Rattle.hs_events.specs.Reports.{TellsOf}
 use Rattle.hs_events.specs.Whole.{Whole, counts, step_whole}
 use Rattle.hs_fold.specs.Shards.Setting.{Numbered}
 use Rattle.hs_limits.specs.declared.shape.Shape.{Shape}
@@ -65,13 +69,14 @@ quiet_logs c e now logs fewer disks sane was quiet going less keeps = record {
 }
 
 pub quiet_shows : (e : Event) (now : ℕ) (old new : Running) (disks : List DiskSeen) (r : Result ⊤ ClusterFault) → report_in e ≡ None → old.core.ended ≡ None → Does (done_of r (e, now)) old new r
-    → ((p : ℕ) (keeping : Keeping) → log_at new.logs p ≡ Some keeping → log_at old.logs p ≡ Some keeping) → ((p : ℕ) → SlotStays e old.logs new.logs p)
+    → ((p : ℕ) (keeping : Keeping) → log_at new.logs p ≡ Some keeping → log_at old.logs p ≡ Some keeping) → ((p : ℕ) → SlotStays e old.logs new.logs p) → new.cache ≡ old.cache
     → Shows ⊤ (record { before = now; now = now; old = old; new = new; disks = disks; left = disks }) r (done_of r (e, now))
-quiet_shows e now old new disks r quiet was does less stays = record {
+quiet_shows e now old new disks r quiet was does less stays same = record {
   counted = counted_quiet old.core e now r disks quiet;
+  untold = λ out. untold_same old.core (done_of r (e, now)) disks;
   calm = λ first calm. calm_one e now old new first disks disks calm r does (λ disk. refl);
   past = λ told first calm peer holds. past_quiet now old.logs new.logs disks r peer less holds;
-  lists = λ told c core can. record {
+  lists = λ told c core can has. record {
     earlier = λ peer m side low fits. refl;
     moments = record { fine = λ m peer low high fits counted image left. absurd (omega (arith, low, high)) };
     keeps = behind c e now (λ s. Keeps whole_machine s now (stands_of disks)) r can.keeps
@@ -79,13 +84,20 @@ quiet_shows e now old new disks r quiet was does less stays = record {
     told = told_by c e now r (subst (λ o. IsTold c o) (sym quiet) tt);
   };
   goes_on = λ told c core can. go r does c core can;
-  told = λ told c core can. told_by c e now r (subst (λ o. IsTold c o) (sym quiet) tt);
+  told = λ told c core can has. told_by c e now r (subst (λ o. IsTold c o) (sym quiet) tt);
   read = λ told c core can stored. all_quiet old.core e now r disks quiet;
   reads_on = λ told c core can. reading r does c core can;
+  cached = λ told c core can has. caching r does c core can has;
   headed = λ told peer headed. heads_quiet (own_header old.core.members.shape peer) now old.logs new.logs disks r peer (less peer) headed;
-  copies = λ told. quiet_lists e now old new disks r quiet was does stays;
+  copies = λ told. quiet_lists e now old new disks r quiet was does stays same;
 }
   where
+    caching : (r : Result ⊤ ClusterFault) → Does (done_of r (e, now)) old new r → (c : Whole) → c.core ≡ old.core → CanRead c old.logs disks → AreCached c old.cache → OnOk r (AreCached (runs whole_machine c (done_of r (e, now))) new.cache)
+    caching (Err fault) does c core can has = tt
+    caching (Ok done) does c core can has =
+        cached_as (step_whole e now c) old.cache new.cache same
+        (quiet_cached c can.sane e now quiet (ap (λ x. (step e now x).ended) core ∙ step_going e now old new does) old.cache has)
+
     reading : (r : Result ⊤ ClusterFault) → Does (done_of r (e, now)) old new r → (c : Whole) → c.core ≡ old.core → CanRead c old.logs disks → OnOk r (CanRead (runs whole_machine c (done_of r (e, now))) new.logs disks)
     reading (Err fault) does c core can = tt
     reading (Ok done) does c core can =
@@ -110,18 +122,20 @@ quiet_shows e now old new disks r quiet was does less stays = record {
 pub none_shows : (now : ℕ) (old new : Running) (disks : List DiskSeen) → Shows ⊤ (record { before = now; now = now; old = old; new = new; disks = disks; left = disks }) (Err NoMemory) []
 none_shows now old new disks = record {
   counted = counted_still old.core disks;
+  untold = λ out. untold_same old.core [] disks;
   calm = λ first calm. tt;
   past = λ told first calm peer holds. record { stays = (past_quiet now old.logs old.logs disks (Err NoMemory) peer (λ k keeping at. at) holds).stays; holds = tt };
-  lists = λ told c core can. record {
+  lists = λ told c core can has. record {
     earlier = λ peer m side low fits. refl;
     moments = record { fine = λ m peer low high fits counted image left. absurd (omega (arith, low, high)) };
     keeps = can.keeps;
     told = tt;
   };
   goes_on = λ told c core can. tt;
-  told = λ told c core can. tt;
+  told = λ told c core can has. tt;
   read = λ told c core can stored. all_still old.core disks;
   reads_on = λ told c core can. tt;
+  cached = λ told c core can has. tt;
   headed = λ told peer headed.
       heads_cut (own_header old.core.members.shape peer) now now disks disks old.logs new.logs (Err NoMemory) NoMemory peer (heads_quiet (own_header old.core.members.shape peer) now old.logs old.logs disks (Err NoMemory) peer (λ keeping at. at) headed);
   copies = λ told. none_lists now old new disks;
@@ -130,29 +144,31 @@ none_shows now old new disks = record {
 pub begin_shows : (tells : Type 0) (now : ℕ) (old : Running) (disks : List DiskSeen) → Shows tells (record { before = now; now = now; old = old; new = old; disks = disks; left = disks }) (Ok tt) []
 begin_shows tells now old disks = record {
   counted = counted_still old.core disks;
+  untold = λ out. untold_same old.core [] disks;
   calm = λ first calm. calm;
   past = λ told first calm peer holds. past_quiet now old.logs old.logs disks (Ok tt) peer (λ k keeping at. at) holds;
-  lists = λ told c core can. record {
+  lists = λ told c core can has. record {
     earlier = λ peer m side low fits. refl;
     moments = record { fine = λ m peer low high fits counted image left. absurd (omega (arith, low, high)) };
     keeps = can.keeps;
     told = tt;
   };
   goes_on = λ told c core can. can;
-  told = λ told c core can. tt;
+  told = λ told c core can has. tt;
   read = λ told c core can stored. all_still old.core disks;
   reads_on = λ told c core can. can;
+  cached = λ told c core can has. has;
   headed = λ told peer headed. heads_quiet (own_header old.core.members.shape peer) now old.logs old.logs disks (Ok tt) peer (λ keeping at. at) headed;
   copies = λ told. begin_lists now old disks;
 }
 
 -- whatever the disks tell
 pub any_shows : (tells : Type 0) (span : Span) (r : Result ⊤ ClusterFault) (es : Events) → Shows ⊤ span r es → Shows tells span r es
-any_shows tells span r es shows = record { counted = shows.counted; calm = shows.calm; past = λ told. shows.past tt; lists = λ told. shows.lists tt; goes_on = λ told. shows.goes_on tt; told = λ told. shows.told tt; read = λ told. shows.read tt; reads_on = λ told. shows.reads_on tt; headed = λ told. shows.headed tt; copies = λ told. shows.copies tt }
+any_shows tells span r es shows = record { counted = shows.counted; untold = shows.untold; calm = shows.calm; past = λ told. shows.past tt; lists = λ told. shows.lists tt; goes_on = λ told. shows.goes_on tt; told = λ told. shows.told tt; read = λ told. shows.read tt; reads_on = λ told. shows.reads_on tt; cached = λ told. shows.cached tt; headed = λ told. shows.headed tt; copies = λ told. shows.copies tt }
 
 -- it is given up
 pub cut_shows : (tells : Type 0) (span : Span) (fault : ClusterFault) (es : Events) → Shows tells span (Ok tt) es → Shows tells span (Err fault) es
-cut_shows tells span fault es shows = record { counted = shows.counted; calm = λ first calm. tt; past = λ told first calm peer holds. record { stays = (shows.past told first calm peer holds).stays; holds = tt }; lists = shows.lists; goes_on = λ told c core can. tt; told = shows.told; read = shows.read; reads_on = λ told c core can. tt; headed = λ told peer headed. heads_cut (own_header span.old.core.members.shape peer) span.before span.now span.disks span.left span.new.logs span.new.logs (Ok tt) fault peer (shows.headed told peer headed); copies = λ told. cut_lists span fault es (shows.copies told) }
+cut_shows tells span fault es shows = record { counted = shows.counted; untold = λ out. shows.untold refl; calm = λ first calm. tt; past = λ told first calm peer holds. record { stays = (shows.past told first calm peer holds).stays; holds = tt }; lists = shows.lists; goes_on = λ told c core can. tt; told = shows.told; read = shows.read; reads_on = λ told c core can. tt; cached = λ told c core can has. tt; headed = λ told peer headed. heads_cut (own_header span.old.core.members.shape peer) span.before span.now span.disks span.left span.new.logs span.new.logs (Ok tt) fault peer (shows.headed told peer headed); copies = λ told. cut_lists span fault es (shows.copies told) }
 
 -- ---- a call and its report
 
@@ -166,11 +182,12 @@ pub job_cut : (tells : Type 0) (before now peer : ℕ) (old new : Running) (afte
     → Shows tells (record { before = before; now = now; old = old; new = new; disks = disks; left = left }) (Err NoMemory) []
 job_cut tells before now peer old new after disks left {E = E} result is up was since works any falls heads = record {
   counted = counted_none old.core disks left falls;
+  untold = λ out. absurd (true≢false out);
   calm = λ first calm. tt;
   past = λ told first calm k holds.
       let w : Working = record { peer = peer; before = before; now = now; logs = old.logs; after = after; disks = disks; left = left } in
       record { stays = (job_past w (first_job peer old.core) result (works told (own_first old.core first disks peer calm)) up k holds).stays; holds = tt };
-  lists = λ told c core can.
+  lists = λ told c core can has.
       let low : IsPeer c.core.members.shape peer = subst (λ (x : Core). IsPeer x.members.shape peer) (sym core) is in
       let w : Working = record { peer = peer; before = before; now = now; logs = old.logs; after = after; disks = disks; left = left } in
       let own : is_own (first_job peer old.core) ≡ true = subst (λ x. is_own (first_job peer x) ≡ true) core (own_job c peer can.sane) in
@@ -178,12 +195,13 @@ job_cut tells before now peer old new after disks left {E = E} result is up was 
       let call = call_fine c w can.sane low can.listed can.keeps result done in
       call_lists c before now peer (stands_of disks) (stands_of left) (since told) can.keeps call (record { before = before; now = now; old = old; new = new; disks = disks; left = left }) refl refl refl refl;
   goes_on = λ told c core can. tt;
-  told = λ told c core can. tt;
+  told = λ told c core can has. tt;
   read = λ told c core can stored. all_none old.core disks left falls;
   reads_on = λ told c core can. tt;
+  cached = λ told c core can has. tt;
   headed = λ told p headed.
       heads_cut (own_header old.core.members.shape p) before now disks left after new.logs (Err NoMemory) NoMemory p (heads_shown (own_header old.core.members.shape p) before now disks left after after (Err NoMemory) p refl (heads told p headed));
-  copies = λ told. job_cut_lists before now peer old new after disks left result is was (since told) (any told);
+  copies = λ told. job_cut_lists before now peer old new after disks left result is was (since told) (any told) falls;
 }
 
 -- the job was done, and its report came, unless memory ran out or it was refused
@@ -191,19 +209,22 @@ pub job_shows : (tells : Type 0) (before now peer : ℕ) (old new : Running) (af
     → old.core.ended ≡ None → is_answer old.core peer done ≡ true → (tells → Since (stands_of disks))
     → (tells → is_own (first_job peer old.core) ≡ true → WorksAlone {E = E} (record { peer = peer; before = before; now = now; logs = old.logs; after = after; disks = disks; left = left }) (first_job peer old.core) (Ok done))
     → new.logs ≡ after → Does (done_of r (event.Report peer done, now)) old new r → NoneFalls disks left → HasPaid old.core peer done disks left → AllStandUntold done disks left → TellsBytes done
-    → (tells → is_own (first_job peer old.core) ≡ true → (list : Numbered) (waiting : Option Entry) → ((keeping : Keeping) → log_at old.logs peer ≡ Some keeping → IsKept keeping ((disk_at (stands_of disks) peer).seen keeping.log.side) list waiting)
-    → HasStored (first_job peer old.core) (catalogue_of (home peer old.core) old.core).blocks list → HasAllPaid old.core peer done disks left)
     → (is_own (first_job peer old.core) ≡ true → IsSome (log_at old.logs peer))
     → (tells → is_own (first_job peer old.core) ≡ true → (list : Numbered) (waiting : Option Entry) → ((keeping : Keeping) → log_at old.logs peer ≡ Some keeping → IsKept keeping ((disk_at (stands_of disks) peer).seen keeping.log.side) list waiting)
-    → (j : Job) → first_job peer old.core ≡ Some j → ReadsOn (log_at after peer) (disk_at (stands_of left) peer) j list waiting done)
+    → (j : Job) → first_job peer old.core ≡ Some j → ReadsLog (failed_disk done) (log_at after peer) (disk_at (stands_of left) peer) j list waiting)
+    → (tells → is_own (first_job peer old.core) ≡ true → (list : Numbered) (waiting : Option Entry) → ((keeping : Keeping) → log_at old.logs peer ≡ Some keeping → IsKept keeping ((disk_at (stands_of disks) peer).seen keeping.log.side) list waiting)
+    → ((number : ℕ) → first_job peer old.core ≡ Some (job.Read number) → AreBlocks old.cache (home peer old.core) list) → TellsOf done (Some list))
+    → KeepsRead (home peer old.core) (front_of (home peer old.core) old.core) done old.cache new.cache
     → (tells → Works {E = E} (own_header old.core.members.shape peer) (record { peer = peer; before = before; now = now; logs = old.logs; after = after; disks = disks; left = left }) (first_job peer old.core) (Ok done))
     → (tells → (p : ℕ) → IsHeadedAt (own_header old.core.members.shape p) before old.logs disks p → StaysHeadedAt (own_header old.core.members.shape p) before now disks after left p)
+    → (tells → PaysFor peer done old.core old.logs disks left)
     → Shows tells (record { before = before; now = now; old = old; new = new; disks = disks; left = left }) r (done_of r (event.Report peer done, now))
-job_shows tells before now peer old new after disks left E done r is up was answer since works kept does falls paid stands bytes all had reads any heads = record {
+job_shows tells before now peer old new after disks left E done r is up was answer since works kept does falls paid stands bytes had reads blocks keeps_read any heads pays = record {
   counted = counted_one old.core (event.Report peer done) now r disks left falls paid;
+  untold = untold_reported old.core peer now done r disks left stands;
   calm = λ first calm. calm_reported peer now done old new first disks left r calm answer does stands;
   past = λ told first calm k holds. past_then told first calm k holds;
-  lists = λ told c core can.
+  lists = λ told c core can has.
       let low : IsPeer c.core.members.shape peer = subst (λ (x : Core). IsPeer x.members.shape peer) (sym core) is in
       let done_then = did told c core can in
       let call = call_fine c w can.sane low can.listed can.keeps (Ok done) done_then in
@@ -214,14 +235,15 @@ job_shows tells before now peer old new after disks left E done r is up was answ
         keeps = behind c e now (λ s. Keeps whole_machine s now (stands_of left)) r
             (call_keeps c before now peer (stands_of disks) (stands_of left) (since told) can.keeps call)
             (λ there. keeps_then told c core can there);
-        told = told_by c e now r (report_told c w can.sane low can.listed can.keeps done now E done_then answers, bytes);
+        told = told_by c e now r (told_then_of told c core (read_of c old.logs disks before can) has, bytes);
       };
   goes_on = λ told c core can. go r does told c core can;
-  told = λ told c core can. told_by c e now r ((reads_then told c core can).told, bytes);
+  told = λ told c core can has. told_by c e now r (told_then_of told c core can has, bytes);
   read = λ told c core can stored. read_then told c core can (ran_out r) stored;
   reads_on = λ told c core can. reading r does told c core can;
+  cached = λ told c core can has. caching r does told c core can has;
   headed = λ told p headed. heads_shown (own_header old.core.members.shape p) before now disks left after new.logs r p kept (heads told p headed);
-  copies = λ told. job_lists before now peer old new after disks left E done r is was answer (since told) (any told) (heads told peer) kept does bytes;
+  copies = λ told. job_lists before now peer old new after disks left E done r is was answer (since told) (any told) (heads told peer) kept does bytes (blocks told) keeps_read falls (pays told);
 }
   where
     e : Event
@@ -251,8 +273,22 @@ job_shows tells before now peer old new after disks left E done r is up was answ
     job_in : (j : Job) × (first_job peer old.core ≡ Some j)
     job_in = some_job old.core peer done answer
 
-    reads_then : tells → (c : Whole) → c.core ≡ old.core → CanRead c old.logs disks → ReadsOn (log_at after peer) (disk_at (stands_of left) peer) job_in.0 (sealed_front c peer) (appended_of peer c.core) done
+    reads_then : tells → (c : Whole) → c.core ≡ old.core → CanRead c old.logs disks → ReadsLog (failed_disk done) (log_at after peer) (disk_at (stands_of left) peer) job_in.0 (sealed_front c peer) (appended_of peer c.core)
     reads_then told c core can = reads told (own_in c core can.sane) (sealed_front c peer) (appended_of peer c.core) (λ keeping at. can.listed.each peer keeping (low_in c core) at) job_in.0 job_in.1
+
+    -- what it tells of a block is so of what is sealed, where what is cached is of what took effect
+    told_then_of : tells → (c : Whole) → c.core ≡ old.core → CanRead c old.logs disks → AreCached c old.cache → TellsOf done (Some (sealed_front c peer))
+    told_then_of told c core can has =
+        blocks told (own_in c core can.sane) (sealed_front c peer) (appended_of peer c.core) (λ keeping at. can.listed.each peer keeping (low_in c core) at)
+        (λ number first. subst (λ x. AreBlocks old.cache (home peer x) (sealed_front c peer)) core (cached_blocks c old.cache peer (low_in c core) (sane_effect c can.sane peer (low_in c core)) has))
+
+    caching : (r : Result ⊤ ClusterFault) → Does (done_of r (e, now)) old new r → tells → (c : Whole) → c.core ≡ old.core → CanRead c old.logs disks → AreCached c old.cache → OnOk r (AreCached (runs whole_machine c (done_of r (e, now))) new.cache)
+    caching (Err fault) does told c core can has = tt
+    caching (Ok x) does told c core can has =
+        let answers : is_answer c.core peer done ≡ true = subst (λ x. is_answer x peer done ≡ true) (sym core) answer in
+        report_cached c can.sane peer done now answers (ap (λ x. (step e now x).ended) core ∙ step_going e now old new does) new.cache
+        (cached_read c peer done old.cache new.cache answers (λ number first. sane_effect c can.sane peer (low_in c core)) (told_then_of told c core can has)
+        (subst (λ x. KeepsRead (home peer x) (front_of (home peer x) x) done old.cache new.cache) (sym core) keeps_read) has)
 
     reading : (r : Result ⊤ ClusterFault) → Does (done_of r (e, now)) old new r → tells → (c : Whole) → c.core ≡ old.core → CanRead c old.logs disks → OnOk r (CanRead (runs whole_machine c (done_of r (e, now))) new.logs left)
     reading (Err fault) does told c core can = tt
@@ -272,7 +308,7 @@ job_shows tells before now peer old new after disks left E done r is up was answ
     read_then told c core can true stored = all_none old.core disks left falls
     read_then told c core can false stored =
         all_one old.core e now (Ok tt) disks left falls
-        (all told (own_in c core can.sane) (sealed_front c peer) (appended_of peer c.core) (λ keeping at. can.listed.each peer keeping (low_in c core) at)
+        ((pays told).own (own_in c core can.sane) (sealed_front c peer) (appended_of peer c.core) (λ keeping at. can.listed.each peer keeping (low_in c core) at)
         (subst (λ x. HasStored (first_job peer x) (catalogue_of (home peer x) x).blocks (sealed_front c peer)) core (stored.0 (ap (λ (x : Core). x.ended) core ∙ was) peer)))
 
     keeps_then : tells → (c : Whole) → c.core ≡ old.core → CanGoOn c old.logs disks before → is_refused (step e now c.core).ended ≡ false → Keeps whole_machine (step_whole e now c) now (stands_of left)
@@ -307,20 +343,26 @@ pub shows_then : (tells : Type 0) (before mid now : ℕ) (old here new : Running
     → Shows tells (record { before = before; now = now; old = old; new = new; disks = disks; left = left }) r (es ++ fs)
 shows_then tells before mid now old here new disks between left r es fs does rise on first second = record {
   counted = counted_then old.core here.core es fs disks between left (does.core refl) first.counted second.counted;
+  untold = λ out. untold_then old.core here.core es fs disks between left (does.core refl) (first.untold refl) (second.untold out);
   calm = λ entry calm. second.calm entry (first.calm entry calm);
   past = λ told entry calm k holds.
       let one = first.past told entry calm k holds in
       leaves_then before mid now disks between left new.logs r k one.stays (second.past told entry (first.calm entry calm) k one.holds);
-  lists = λ told c core can.
-      lists_then c es fs before mid now old here new disks between left (going c core) rise on (first.lists told c core can) (second.lists told (runs whole_machine c es) (core_then c core) (first.goes_on told c core can));
+  lists = λ told c core can has.
+      lists_then c es fs before mid now old here new disks between left (going c core) rise on (first.lists told c core can has)
+      (second.lists told (runs whole_machine c es) (core_then c core) (first.goes_on told c core can) (first.cached told c core (read_of c old.logs disks before can) has));
   goes_on = λ told c core can.
       subst (λ s. OnOk r (CanGoOn s new.logs left now)) (sym (runs_append c es fs)) (second.goes_on told (runs whole_machine c es) (core_then c core) (first.goes_on told c core can));
-  told = λ told c core can. told_then c es fs (first.told told c core can) (second.told told (runs whole_machine c es) (core_then c core) (first.reads_on told c core can));
+  told = λ told c core can has.
+      told_then c es fs (first.told told c core can has) (second.told told (runs whole_machine c es) (core_then c core) (first.reads_on told c core can) (first.cached told c core can has));
   read = λ told c core can stored.
       all_then old.core here.core es fs disks between left (does.core refl) (first.read told c core can (stored_front c es fs stored))
       (second.read told (runs whole_machine c es) (core_then c core) (first.reads_on told c core can) (stored_back c es fs stored));
   reads_on = λ told c core can.
       subst (λ s. OnOk r (CanRead s new.logs left)) (sym (runs_append c es fs)) (second.reads_on told (runs whole_machine c es) (core_then c core) (first.reads_on told c core can));
+  cached = λ told c core can has.
+      subst (λ s. OnOk r (AreCached s new.cache)) (sym (runs_append c es fs))
+      (second.cached told (runs whole_machine c es) (core_then c core) (first.reads_on told c core can) (first.cached told c core can has));
   headed = λ told p headed.
       let one = first.headed told p headed in
       heads_next (own_header old.core.members.shape p) before mid now disks between left new.logs r p one.disk

@@ -1,6 +1,6 @@
 -- What a cluster begins with, from the logs that were taken, and its first turns.
 use Rattle.std.specs.Option.{option_map_or}
-use Rattle.std.specs.Prelude.{◌≡◌, ◌*◌, ◌++◌, ◌∷◌, ◌<◌, ◌≤◌, ◌==◌, ◌&&◌, ℕ, ⊤, Bool, List, [], flat_map, if◌then◌else◌, is_some, length, map, not, slice_get, IsSome, Result, Some, false, true}
+use Rattle.std.specs.Prelude.{◌≡◌, ◌*◌, ◌++◌, ◌∷◌, ◌<◌, ◌≤◌, ◌==◌, ◌&&◌, ℕ, ⊤, Bool, List, [], flat_map, if◌then◌else◌, is_some, length, map, not, slice_get, IsSome, None, Result, Some, false, true}
 use Rattle.hs_cluster.specs.Calls.{Does, ran_out}
 use Rattle.hs_cluster.specs.Counts.{NoneFalls}
 use Rattle.hs_cluster.specs.declared.fault.ClusterFault.{ClusterFault}
@@ -87,6 +87,7 @@ pub record Begins (tells : Type 0) (set : Setting) (span : Span) (cluster : Runn
   pub disks : length span.old ≡ set.shape.shards * set.shape.copies
   pub left : length span.new ≡ length span.old
   pub logs : cluster.logs ≡ taken.logs
+  pub uncached : cluster.cache ≡ None
   pub owns : OwnTheirLogs tells set.shape (log_at taken.logs)
   pub headed : (peer : ℕ) → peer < length span.old → KeepsItsHeader tells (own_header set.shape peer) span.before span.now (seen_at span.old peer) (seen_at span.new peer)
   pub core : cluster.core ≡ open_core set.shape set.limits (opened_with taken) span.now

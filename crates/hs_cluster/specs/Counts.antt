@@ -28,6 +28,10 @@ HasPaid core peer done old new = (disk : ℕ) → costs false disk core (Report 
 abbrev pub HasAllPaid : Core → ℕ → Done → List DiskSeen → List DiskSeen → Type 0
 HasAllPaid core peer done old new = (disk : ℕ) → costs true disk core (Report peer done) ≡ true → HasRisen (seen_at old disk).faults (seen_at new disk).faults
 
+-- so each disk whose failed call is told, whatever it was that failed
+abbrev pub HasRisenTold : Done → List DiskSeen → List DiskSeen → Type 0
+HasRisenTold done old new = (disk : ℕ) → failed_disk done ≡ Some disk → HasRisen (seen_at old disk).faults (seen_at new disk).faults
+
 -- where it tells no failed call of the disk of its peer, the count stands
 abbrev pub StandsUntold : ℕ → ℕ → ℕ → Done → Type 0
 StandsUntold peer before now done = failed_disk done ≢ Some peer → now ≡ before
@@ -54,3 +58,7 @@ pub record AreCounted (core : Core) (events : Events) (old new : List DiskSeen) 
 -- and by as many as the reports tell of reads too
 abbrev pub AreAllCounted : Core → Events → List DiskSeen → List DiskSeen → Type 0
 AreAllCounted core events old new = (disk : ℕ) → RoseBy (failures true disk core events) (seen_at old disk).faults (seen_at new disk).faults
+
+-- and no count rises but that of a disk of which they report a failed call
+abbrev pub UntoldStand : Core → Events → List DiskSeen → List DiskSeen → Type 0
+UntoldStand core events old new = (disk : ℕ) → failures true disk core events ≡ 0 → (seen_at new disk).faults ≡ (seen_at old disk).faults

@@ -100,11 +100,10 @@ LeavesLog None t j list waiting =
     (keeping : Keeping) × (t.kept ≡ Some keeping) × HasLog keeping t.new (list_after j list waiting) (waiting_after j waiting)
 LeavesLog (Some disk) t j list waiting = t.kept ≡ None
 
--- each moment leaves the list before the job or the one behind it; and what was read is of the list
+-- each moment leaves the list before the job or the one behind it
 pub record Leaves {E : Type 0} (t : Try) (j : Job) (list : Numbered) (waiting : Option Entry) (result : Result Done E) : Type 0 where
   pub moments : LeavesEach t.before t.now t.old t.new (IsOne list (list_after j list waiting))
   pub log : IfOk result (λ done. LeavesLog (failed_disk done) t j list waiting)
-  pub told : IfOk result (λ done. TellsOf done (Some list))
 
 -- what reads of a log give behind a job: what was done is on the disk; a disk whose call failed is out of use
 abbrev pub ReadsLog : Option ℕ → Option Keeping → Standing → Job → Numbered → Option Entry → Type 0

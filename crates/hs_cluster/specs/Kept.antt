@@ -1,7 +1,9 @@
 -- What a cluster tells of its disks: the counts of any, and the contents, where they tell them and each shard has one copy.
-use Rattle.std.specs.Prelude.{◌≡◌, ◌≤◌, ◌<◌, ◌-◌, ◌^◌, ℕ, ⊤, List, [], ◌∷◌, Option, Some, None, Result, OnOk}
+use Rattle.std.specs.Prelude.{◌≡◌, ◌≤◌, ◌<◌, ◌-◌, ◌^◌, ℕ, ⊤, false, List, [], ◌∷◌, Option, Some, None, Result, OnOk}
+use Rattle.hs_cluster.specs.Calls.{ran_out}
+use Rattle.hs_cluster.specs.Cached.{AreCached}
 use Rattle.hs_cluster.specs.Calm.{GoesCalmly}
-use Rattle.hs_cluster.specs.Counts.{AreAllCounted, AreCounted}
+use Rattle.hs_cluster.specs.Counts.{AreAllCounted, AreCounted, UntoldStand}
 use Rattle.hs_cluster.specs.Disks.{DiskSeen, log_at, stands_of}
 use Rattle.hs_cluster.specs.Headed.{IsHeadedAt, LeavesHeads}
 use Rattle.hs_cluster.specs.Jobs.{HasStored, TellsBytes}
@@ -88,28 +90,35 @@ abbrev pub AreStored : Whole → Events → Type 0
 AreStored c [] = ⊤
 AreStored c (e ∷ es) = (c.core.ended ≡ None → IsStored c) × AreStored (step_whole e.0 e.1 c) es
 
--- with any number of copies, where the core's lists go on as they should, and the logs have what is told of them: the lists at each moment, and the logs behind it
+-- with any number of copies, where the core's lists go on as they should, and the logs have what is told of them: the lists at each moment, the logs behind it,
+-- and that reads too cost what is reported of failed calls
 pub record ShowsLists (span : Span) (result : Result ⊤ ClusterFault) (events : Events) : Type 0 where
-  pub lists : (c : Whole) → c.core ≡ span.old.core → AreSteady c events → KeepsPeers c span.old.logs span.disks span.before → LeavesLists c events span
+  pub lists : (c : Whole) → c.core ≡ span.old.core → AreSteady c events → KeepsPeers c span.old.logs span.disks span.before → AreCached c span.old.cache → LeavesLists c events span
   pub goes_on : (c : Whole) → c.core ≡ span.old.core → AreSteady c events → KeepsPeers c span.old.logs span.disks span.before
       → OnOk result (KeepsPeers (runs whole_machine c events) span.new.logs span.left span.now)
+  pub read : (c : Whole) → c.core ≡ span.old.core → AreSteady c events → KeepsPeers c span.old.logs span.disks span.before → AreStored c events → AreAllCounted span.old.core events span.disks span.left
+  pub cached : (c : Whole) → c.core ≡ span.old.core → AreSteady c events → KeepsPeers c span.old.logs span.disks span.before → AreCached c span.old.cache
+      → OnOk result (AreCached (runs whole_machine c events) span.new.cache)
 
--- what the events of a call show. Of whatever disks: what they report of failed calls is at the counts. Of those that tell their contents: what is told of blocks, and that reads too cost what is reported
+-- what the events of a call show. Of whatever disks: what they report of failed calls is at the counts, and no other count rises, but where memory ran out. Of those that tell their contents: what is told of blocks, and that reads too cost what is reported
 -- of failed calls; and, where a stop leaves the lists with which the call began, the lists at each moment. Behind it the cluster keeps what it needs to go on
 pub record Shows (tells : Type 0) (span : Span) (result : Result ⊤ ClusterFault) (events : Events) : Type 0 where
   pub counted : AreCounted span.old.core events span.disks span.left
+  pub untold : ran_out result ≡ false → UntoldStand span.old.core events span.disks span.left
   -- with one copy a shard: where the core goes on no disk failed on the way, from whatever disks on
   pub calm : (first : List DiskSeen) → GoesCalmly span.old.core first span.disks → OnOk result (GoesCalmly span.new.core first span.left)
   -- what is past of a disk stays, whose log has some list whatever a stop leaves; and so it does on
   pub past : tells → (first : List DiskSeen) → GoesCalmly span.old.core first span.disks → (peer : ℕ) → HoldsLog span.before span.old.logs span.disks peer
       → LeavesPast span.before span.now span.disks span.left span.new.logs result peer
-  pub lists : tells → (c : Whole) → c.core ≡ span.old.core → CanGoOn c span.old.logs span.disks span.before → LeavesLists c events span
+  pub lists : tells → (c : Whole) → c.core ≡ span.old.core → CanGoOn c span.old.logs span.disks span.before → AreCached c span.old.cache → LeavesLists c events span
   pub goes_on : tells → (c : Whole) → c.core ≡ span.old.core → CanGoOn c span.old.logs span.disks span.before
       → OnOk result (CanGoOn (runs whole_machine c events) span.new.logs span.left span.now)
   -- for logs that read so, whatever a stop leaves
-  pub told : tells → (c : Whole) → c.core ≡ span.old.core → CanRead c span.old.logs span.disks → AreTold c events
+  pub told : tells → (c : Whole) → c.core ≡ span.old.core → CanRead c span.old.logs span.disks → AreCached c span.old.cache → AreTold c events
   pub read : tells → (c : Whole) → c.core ≡ span.old.core → CanRead c span.old.logs span.disks → AreStored c events → AreAllCounted span.old.core events span.disks span.left
   pub reads_on : tells → (c : Whole) → c.core ≡ span.old.core → CanRead c span.old.logs span.disks → OnOk result (CanRead (runs whole_machine c events) span.new.logs span.left)
+  -- what is cached stays the blocks of what took effect
+  pub cached : tells → (c : Whole) → c.core ≡ span.old.core → CanRead c span.old.logs span.disks → AreCached c span.old.cache → OnOk result (AreCached (runs whole_machine c events) span.new.cache)
   -- with any number of copies: a stop leaves no header on the disk of a peer but its own, where it left none before and its log has this
   pub headed : tells → (peer : ℕ) → IsHeadedAt (own_header span.old.core.members.shape peer) span.before span.old.logs span.disks peer
       → LeavesHeads (own_header span.old.core.members.shape peer) span.before span.now span.disks span.left span.new.logs result peer

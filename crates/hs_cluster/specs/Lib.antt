@@ -1,4 +1,5 @@
 pub mod Begins
+pub mod Cached
 pub mod Calls
 pub mod Calm
 pub mod Counts

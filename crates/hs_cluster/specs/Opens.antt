@@ -1,9 +1,10 @@
 -- What opening a cluster promises: what was found, and how the core goes on from it.
 use Rattle.std.specs.List.{AllPairs}
 use Rattle.std.specs.Prelude.{◌≡◌, ◌⊎◌, ◌++◌, ◌<◌, ◌≤◌, ℕ, ⊤, List, length, not, Contains, Option, None, Some, IsSome, OnOk, Result, false, is_some, true, slice_index_or}
+use Rattle.hs_cluster.specs.Cached.{AreCached}
 use Rattle.hs_cluster.specs.Calls.{outcome_by, ran_out}
 use Rattle.hs_cluster.specs.Calm.{GoesCalmly}
-use Rattle.hs_cluster.specs.Counts.{AreAllCounted, AreCounted, NoneFalls}
+use Rattle.hs_cluster.specs.Counts.{AreAllCounted, AreCounted, NoneFalls, UntoldStand}
 use Rattle.hs_cluster.specs.declared.fault.ClusterFault.{ClusterFault}
 use Rattle.hs_cluster.specs.Headed.{IsOwnAt, LeavesHeads}
 use Rattle.hs_cluster.specs.Kept.{AreStored, AreTold, CanGoOn, CanRead, LeavesLists, ShowsLists}
@@ -134,6 +135,8 @@ pub record Opens (tells : Type 0) (set : Setting) (span : Span) (cluster : Runni
   -- no count fell before the turns; what these report of failed calls is at the counts, and a core that goes on has room
   pub falls : NoneFalls span.old disks
   pub counted : AreCounted (first_core set found) events disks span.new
+  -- and no other count rises by them, but where memory ran out
+  pub untold : ran_out done ≡ false → UntoldStand (first_core set found) events disks span.new
   pub rooms : HaveRecordRoom (first_core set found) events
   -- where the core goes on no disk failed since entry
   pub calm : set.shape.copies ≡ 1 → OnOk done (GoesCalmly cluster.core span.old span.new)
@@ -149,6 +152,7 @@ pub record Opens (tells : Type 0) (set : Setting) (span : Span) (cluster : Runni
   pub told : set.shape.copies ≡ 1 → tells → (first_core set found).ended ≡ None → AreTold (open_whole set found) events
   pub read : set.shape.copies ≡ 1 → tells → (first_core set found).ended ≡ None → AreStored (open_whole set found) events → AreAllCounted (first_core set found) events disks span.new
   pub reads_on : set.shape.copies ≡ 1 → tells → OnOk done (CanRead (runs whole_machine (open_whole set found) events) cluster.logs span.new)
+  pub cached : set.shape.copies ≡ 1 → tells → OnOk done (AreCached (runs whole_machine (open_whole set found) events) cluster.cache)
   -- with any number of copies: before the first turn each log in use has the header of its peer; and where no call of a disk was ahead at entry, and a stop left no header there but its peer's, it leaves none at any moment from entry on, and so its log has this
   pub owns : OwnTheirLogs tells set.shape (log_at begun.logs)
   pub headed : tells → (peer : ℕ) → IsOwnAt set.shape span.before span.old peer → LeavesHeads (own_header set.shape peer) span.before span.now span.old span.new cluster.logs done peer
@@ -156,4 +160,5 @@ pub record Opens (tells : Type 0) (set : Setting) (span : Span) (cluster : Runni
   pub peers : tells → ((peer : ℕ) → (seen_at span.old peer).stands.last ≤ span.before) → (c : Whole) → OpensLists set found c → KeepsPeers c begun.logs disks found.opened
   -- and in the turns, from the core as it was opened
   pub begins : begun.core ≡ first_core set found
+  pub uncached : begun.cache ≡ None
   pub copies : tells → ShowsLists (record { before = found.opened; now = span.now; old = begun; new = cluster; disks = disks; left = span.new }) done events

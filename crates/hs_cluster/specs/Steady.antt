@@ -1,5 +1,6 @@
 -- What a core beside the lists of its peers owes to those who do its jobs and keep its disks, with any number of copies.
 use Rattle.std.specs.Prelude.{◌≡◌, ◌≢◌, ◌≤◌, ℕ, false, [], ◌∷◌, None, Option, Some, length, take}
+use Rattle.hs_cluster.specs.Cached.{HasEffect, in_effect}
 use Rattle.hs_cluster.specs.Sealed.{sealed_front}
 use Rattle.hs_cluster.specs.PeerLogs.{log_of_peer}
 use Rattle.hs_core_words.specs.declared.event.Event.{Event}
@@ -18,7 +19,7 @@ use Rattle.hs_events.specs.Due.{Events}
 use Rattle.hs_events.specs.Sane.{appended_of}
 use Rattle.hs_events.specs.Whole.{Whole, floor, reach, step_whole, taken_report}
 use Rattle.hs_fold.specs.Shards.Setting.{Numbered}
-use Rattle.hs_members.specs.Members.{IsPeer}
+use Rattle.hs_members.specs.Members.{IsPeer, IsShard}
 use Rattle.hs_moments.specs.Moments.{Grows}
 use Rattle.hs_moments.specs.WholeMachine.{IsFrontOf, whole_machine}
 use Rattle.hs_moments.specs.Working.{NextJob}
@@ -26,13 +27,14 @@ use Rattle.hs_peerlog.specs.Lists.{numbered_entry}
 
 -- ---- before an event
 
--- a peer that follows copies, from another one's log, the entry of a number that is sealed there: just that may be added to its list
+-- a peer that follows copies, from another one's log, the entry of a number, which is sealed there: just that may be added to its list
 pub record IsNextCopy (c : Whole) (peer from number : ℕ) : Type 0 where
   pub there : IsPeer c.core.members.shape from
   pub other : from ≢ peer
   pub source : log_of_peer c from ≡ Some (sealed_front c from)
   pub follows : log_of_peer c peer ≡ Some (c.lists peer)
   pub unsealed : floor c peer ≡ 0
+  pub sealed : (entry : Entry) × (numbered_entry (sealed_front c from) number ≡ Some entry)
   pub added : (entry : Entry) → numbered_entry (sealed_front c from) number ≡ Some entry → c.adds peer ≡ (number, entry) ∷ []
 
 -- a good peer has the log of what it has sealed, and its job asks for the next entry there, or reads
@@ -49,10 +51,11 @@ AsksFor c peer job.Reset = log_of_peer c peer ≡ None
 AsksFor c peer (job.Copy from number) = IsNextCopy c peer from number
 AsksFor c peer job.Reclaim = ⊥
 
--- what is sealed is within a peer's list, and each job asks for what is next
+-- what is sealed is within a peer's list, each job asks for what is next, and one that reads has sealed what took effect
 pub record IsSteady (c : Whole) : Type 0 where
   pub within : (peer : ℕ) → floor c peer ≤ length (reach c peer)
   pub asks : (peer : ℕ) (j : Job) → IsPeer c.core.members.shape peer → first_job peer c.core ≡ Some j → AsksFor c peer j
+  pub reads : (peer number : ℕ) → IsPeer c.core.members.shape peer → first_job peer c.core ≡ Some (job.Read number) → HasEffect c peer
 
 -- ---- behind an event
 
@@ -77,7 +80,7 @@ pub record TellsItsLog (c new : Whole) (peer : ℕ) (d : Done) : Type 0 where
   pub log : (list : Numbered) → log_of_peer new peer ≡ Some list → LogTold c peer d list (appended_of peer new.core)
   pub begins : log_of_peer new peer ≡ None → IsFrontOf peer (reach c peer) (reach new peer)
 
--- only logs of peers are told of, and what is sealed is within a list; the peer that reports; one whose disk is told to have failed, or that a line has fail; and the others
+-- only logs of peers are told of, and what is sealed is within a list; the peer that reports; one whose disk is told to have failed, or that a line has fail; the others; and what took effect of each shard stays
 pub record GoesAlong (c : Whole) (e : Event) (new : Whole) : Type 0 where
   pub peers : (peer : ℕ) (list : Numbered) → log_of_peer new peer ≡ Some list → IsPeer new.core.members.shape peer
   pub within : (peer : ℕ) → floor new peer ≤ length (reach new peer)
@@ -85,6 +88,7 @@ pub record GoesAlong (c : Whole) (e : Event) (new : Whole) : Type 0 where
   pub failed : (peer disk : ℕ) (d : Done) → taken_report c.core e ≡ Some (peer, d) → failed_disk d ≡ Some disk → log_of_peer new disk ≡ None
   pub down : (line peer : ℕ) → e ≡ event.Fail line peer → log_of_peer new peer ≡ None
   pub beside : (peer : ℕ) → ((d : Done) → taken_report c.core e ≢ Some (peer, d)) → KeepsItsLog c new peer
+  pub effect : (shard : ℕ) → IsShard new.core.members.shape shard → IsFrontOf shard (in_effect c shard) (in_effect new shard)
 
 -- an event by which the core goes on; and one by which a shard is lost: what began a list still does, and no more of it is sealed
 pub record StepsSteadily (c : Whole) (e : Event × ℕ) : Type 0 where

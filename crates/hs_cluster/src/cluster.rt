@@ -1,10 +1,14 @@
 //! The core with the logs of its peers.
 ghost use Rattle.std.specs.Option.{option_map};
-ghost use Rattle.std.specs.Prelude.{◌≡◌, ◌*◌, ◌≤◌, [], None, false, length};
+ghost use Rattle.std.specs.Prelude.{◌≡◌, ◌*◌, ◌<◌, ◌≤◌, [], None, Some, false, length, IsOkUnless, OnErr, OnOk};
+ghost use Rattle.hs_cache.specs.Cached.{cached};
+ghost use Rattle.hs_cluster.specs.declared.fault.ClusterFault.TheVariants.{NoMemory};
 ghost use Rattle.hs_cluster.specs.Resuming.{EndAsSealed};
 ghost use Rattle.hs_events.specs.Due.{next_turn, peer_due};
 ghost use Rattle.hs_tokens.specs.Seats.{held_at, seat_of};
 
+use crate::ClusterFault;
+use hs_cache::Cache;
 use hs_core::Core;
 use hs_desk::CoreFault;
 use hs_events::{Due, Place, next_turn, peers_of};
@@ -15,14 +19,15 @@ use hs_peerlog::PeerLog;
 use std::alloc::Global;
 use std::marker::Model;
 
-/// The core, the log of each peer whose disk is in use, and the course. The disks are handed to each
-/// call.
+/// The core, the log of each peer whose disk is in use, the course, and the blocks that were read
+/// lately, where there is a cache. The disks are handed to each call.
 #[derive(Drop)]
 pub struct Cluster {
     pub(crate) alloc: Global,
     pub(crate) core: Core,
     pub(crate) logs: Vec<Option<PeerLog>>,
     pub(crate) course: Vec<CourseItem>,
+    pub(crate) cache: Option<Cache>,
 }
 
 impl Model for Cluster {
@@ -31,7 +36,12 @@ impl Model for Cluster {
 
     ghost Value = { Running };
 
-    ghost view = { λ a. record { core = a.core; logs = a.logs.items; course = a.course.items } };
+    ghost view = { λ a. record {
+      core = a.core;
+      logs = a.logs.items;
+      course = a.course.items;
+      cache = a.cache;
+    } };
 
     ghost invariant = { λ a.
         length a.logs.items ≡ a.core.members.shape.shards * a.core.members.shape.copies };
@@ -73,14 +83,14 @@ impl Cluster {
     }
 
     /// The cluster of a core that goes on, with the logs of its peers: there is one for each peer that
-    /// is not down, which ends with the last entry that the peer has sealed. Its course is empty. It
-    /// takes no memory.
+    /// is not down, which ends with the last entry that the peer has sealed. Its course is empty, and it
+    /// has no cache. It takes no memory.
     pub fn resume(alloc: Global, core: Core, logs: Vec<Option<PeerLog>>) -> Cluster
         requires going { core.ended ≡ None }
         requires count { length logs.items
             ≡ core.members.shape.shards * core.members.shape.copies }
         requires lasts { EndAsSealed core logs.items }
-        ensures { result ≡ record { core = core; logs = logs.items; course = [] } }
+        ensures { result ≡ record { core = core; logs = logs.items; course = []; cache = None } }
     {
         let course = Vec::new(alloc);
         Cluster {
@@ -88,7 +98,23 @@ impl Cluster {
             core,
             logs,
             course,
+            cache: None,
         }
+    }
+
+    /// Caches at most so many blocks that are read from now on. What was cached is so no more. Without
+    /// memory all is as before.
+    pub fn use_cache(&mut self, limit: u32) -> Result<(), ClusterFault>
+        requires least { 0 < limit }
+        ensures made { OnOk result (self.new ≡ record self.old { cache = Some (cached [] limit) }) }
+        ensures same { OnErr result (self.new ≡ self.old) }
+        ensures only { IsOkUnless result NoMemory }
+    {
+        let Ok(cache) = Cache::new(self.alloc, limit) else {
+            return Err(ClusterFault::NoMemory);
+        };
+        self.cache = Some(cache);
+        Ok(())
     }
 
     /// What a handle of a session stands for. None exactly where the session does not hold it. It takes

@@ -21,6 +21,7 @@ impl Cluster {
         requires line { IsNextLine self.old.core event }
         ensures does { Does (done_of result (event, moment)) self.old self.new result }
         ensures logs { self.new.logs ≡ self.old.logs }
+        ensures cache { self.new.cache ≡ self.old.cache }
         ensures shape { self.new.core.members.shape ≡ self.old.core.members.shape }
         ensures moment { self.new.core.moment ≤ moment }
         ensures last_line { OnOk result

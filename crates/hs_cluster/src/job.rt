@@ -1,7 +1,7 @@
 //! The first job of a peer.
-ghost use Rattle.std.specs.Prelude.{◌≡◌, ◌*◌, ◌+◌, ◌≤◌, ℕ, None, Option, Some, length, map, true, false, IfOk, IsOkUnless, IsSome, OnErr, OnOk};
+ghost use Rattle.std.specs.Prelude.{◌≡◌, ◌*◌, ◌+◌, ◌≤◌, ℕ, None, Option, Some, length, map, true, false, IfErr, IfOk, IsOkUnless, IsSome, OnErr, OnOk};
 ghost use Rattle.hs_cluster.specs.declared.fault.ClusterFault.TheVariants.{NoMemory};
-ghost use Rattle.hs_cluster.specs.Counts.{AllStandUntold, HasAllPaid, HasPaid, IsCopyPaid, IsPaid, NoneFalls, StandsUntold};
+ghost use Rattle.hs_cluster.specs.Counts.{AllStandUntold, HasAllPaid, HasPaid, HasRisenTold, IsCopyPaid, IsPaid, NoneFalls, StandsUntold};
 ghost use Rattle.hs_cluster.specs.Disks.{AreReady, IsSlotReady, log_at, seen_as, seen_at, stands_of};
 ghost use Rattle.hs_cluster.specs.Growing.{GoesOn, SlotGoesOn};
 ghost use Rattle.hs_cluster.specs.Headed.{IsHeaded, IsHeadedAt, StaysHeaded, StaysHeadedAt};
@@ -17,6 +17,7 @@ ghost use Rattle.hs_desk.specs.declared.job.Job.{Job};
 ghost use Rattle.hs_desk.specs.declared.job.Job.TheVariants as job;
 ghost use Rattle.hs_members.specs.Members.{IsPeer, is_joining};
 ghost use Rattle.hs_fold.specs.Shards.Setting.{Numbered};
+ghost use Rattle.hs_peerlog.specs.Caused.{IsCaused, IsOutside};
 ghost use Rattle.hs_peerlog.specs.Lists.{HasLog, IsKept, IsReady, Keeping, numbered_entry};
 ghost use Rattle.hs_ports.specs.Moments.{disk_at};
 ghost use Rattle.hs_side.specs.declared.header.Header.{Header};
@@ -119,6 +120,21 @@ pub(crate) fn do_job<D: Disk>(
         → IfOk result (λ done. HasAllPaid core.now peer done
         (map (λ disk. seen_as (D.size disk) (D.stands disk) (D.faults disk)) disks.old)
         (map (λ disk. seen_as (D.size disk) (D.stands disk) (D.faults disk)) disks.new)) }
+    // So of an emptying; and of a copying step, where the list from which it reads has the entry.
+    ensures emptied { first_job peer core.now ≡ Some job.Reset
+        → IfOk result (λ done. HasAllPaid core.now peer done
+        (map (λ disk. seen_as (D.size disk) (D.stands disk) (D.faults disk)) disks.old)
+        (map (λ disk. seen_as (D.size disk) (D.stands disk) (D.faults disk)) disks.new)) }
+    ensures copied { D.tells → (from number : ℕ)
+        → first_job peer core.now ≡ Some (job.Copy from number)
+        → (list : Numbered) (waiting : Option Entry) (entry : Entry)
+        → ((keeping : Keeping) → log_at logs.old.items from ≡ Some keeping
+        → IsKept keeping ((disk_at (stands_of (map (λ disk. seen_as (D.size disk) (D.stands disk)
+        (D.faults disk)) disks.old)) from).seen keeping.log.side) list waiting)
+        → numbered_entry list number ≡ Some entry
+        → IfOk result (λ done. HasAllPaid core.now peer done
+        (map (λ disk. seen_as (D.size disk) (D.stands disk) (D.faults disk)) disks.old)
+        (map (λ disk. seen_as (D.size disk) (D.stands disk) (D.faults disk)) disks.new)) }
     ensures ticks { watch.old ≤ watch.new }
 {
     let Some(job) = core.first_job(peer) else {
@@ -204,6 +220,15 @@ fn do_copy<D: Disk>(
     ensures calm { IfOk result (λ done. AllStandUntold done
         (map (λ disk. seen_as (D.size disk) (D.stands disk) (D.faults disk)) disks.old)
         (map (λ disk. seen_as (D.size disk) (D.stands disk) (D.faults disk)) disks.new)) }
+    // Where the list of the lead's log has the entry, a failed read of it is at the count too.
+    ensures read { D.tells → (list : Numbered) (waiting : Option Entry) (entry : Entry)
+        → ((keeping : Keeping) → log_at logs.old.items from ≡ Some keeping
+        → IsKept keeping ((disk_at (stands_of (map (λ disk. seen_as (D.size disk) (D.stands disk)
+        (D.faults disk)) disks.old)) from).seen keeping.log.side) list waiting)
+        → numbered_entry list number ≡ Some entry
+        → IfOk result (λ done. HasRisenTold done
+        (map (λ disk. seen_as (D.size disk) (D.stands disk) (D.faults disk)) disks.old)
+        (map (λ disk. seen_as (D.size disk) (D.stands disk) (D.faults disk)) disks.new)) }
     ensures ticks { watch.old ≤ watch.new }
 {
     let source = usize::from(from);
@@ -230,6 +255,7 @@ fn do_copy<D: Disk>(
 fn failed_read(fault: LogFault, from: u8) -> Result<Done, ClusterFault>
     ensures told { IfOk result (λ told. told ≡ done.Failed from) }
     ensures only { IsOkUnless result NoMemory }
+    ensures memory { IfOk result (λ told. fault ≡ LogFault.NoMemory → ⊥) }
 {
     match fault {
         LogFault::NoMemory => Err(ClusterFault::NoMemory),
@@ -383,8 +409,13 @@ fn read_copy<D: Disk>(
         → IsKept keeping ((D.stands disk.old).seen keeping.log.side) list waiting
         → IfOk result (λ entry. numbered_entry list number ≡ Some entry) }
     ensures same { D.tells → D.stands disk.new ≡ D.stands disk.old }
+    ensures refused { D.tells → (list : Numbered) (waiting : Option Entry) (entry : Entry)
+        → ((keeping : Keeping) → slot.old ≡ Some keeping
+        → IsKept keeping ((D.stands disk.old).seen keeping.log.side) list waiting)
+        → numbered_entry list number ≡ Some entry → IfErr result IsOutside }
     ensures later { D.faults disk.old ≤ D.faults disk.new }
     ensures calm { OnOk result (D.faults disk.new ≡ D.faults disk.old) }
+    ensures cause { IsCaused (D.faults disk.old) (D.faults disk.new) result }
 {
     let Some(log) = slot.take() else {
         return Err(LogFault::NoMemory);
@@ -404,8 +435,12 @@ fn read_sealed<D: Disk>(log: &PeerLog, disk: &mut D, number: u64) -> Result<Entr
         → IsKept log.now ((D.stands disk.old).seen log.now.log.side) list waiting
         → IfOk result (λ entry. numbered_entry list number ≡ Some entry) }
     ensures same { D.tells → D.stands disk.new ≡ D.stands disk.old }
+    ensures refused { D.tells → (list : Numbered) (waiting : Option Entry) (entry : Entry)
+        → IsKept log.now ((D.stands disk.old).seen log.now.log.side) list waiting
+        → numbered_entry list number ≡ Some entry → IfErr result IsOutside }
     ensures later { D.faults disk.old ≤ D.faults disk.new }
     ensures calm { OnOk result (D.faults disk.new ≡ D.faults disk.old) }
+    ensures cause { IsCaused (D.faults disk.old) (D.faults disk.new) result }
 {
     match log.read_entry(disk, number)? {
         Some(entry) => Ok(entry),

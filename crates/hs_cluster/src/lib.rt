@@ -7,6 +7,7 @@ mod fault;
 mod job;
 mod line;
 mod opening;
+mod recall;
 mod settle;
 mod work;
 

@@ -131,6 +131,7 @@ impl Cluster {
               left = disks;
             }) result) }
         ensures logs { self.new.logs ≡ self.old.logs }
+        ensures cache { self.new.cache ≡ self.old.cache }
         ensures joins { (p : ℕ) → is_joining (status_of p self.old.core) ≡ false
             → OnOk result (is_joining (status_of p self.new.core) ≡ false) }
         ensures shape { self.new.core.members.shape ≡ self.old.core.members.shape }
@@ -156,6 +157,7 @@ impl Cluster {
             }) result) }
         ensures logs { (p : ℕ) (keeping : Keeping) → log_at self.new.logs p ≡ Some keeping
             → log_at self.old.logs p ≡ Some keeping }
+        ensures cache { self.new.cache ≡ self.old.cache }
         ensures own { OnOk result (log_at self.new.logs peer ≡ None) }
         ensures others { (p : ℕ) → p ≢ peer
             → log_at self.new.logs p ≡ log_at self.old.logs p }
@@ -174,6 +176,7 @@ impl Cluster {
     fn put_out(&mut self, peer: u8)
         ensures core { self.new.core ≡ self.old.core }
         ensures course { self.new.course ≡ self.old.course }
+        ensures cache { self.new.cache ≡ self.old.cache }
         ensures own { log_at self.new.logs peer ≡ None }
         ensures others { (p : ℕ) → p ≢ peer
             → log_at self.new.logs p ≡ log_at self.old.logs p }

@@ -51,7 +51,7 @@ impl Cluster {
     /// Opens a cluster: reads every disk, takes the log of each shard, opens the core over them, and
     /// does turns until nobody has one. A disk that fails, or is no log, is out of use. A disk of
     /// another store, or of another peer, ends it before anything is written. Where the core has ended,
-    /// or memory ran out on the turns, the cluster has what was answered so far.
+    /// or memory ran out on the turns, the cluster has what was answered so far. It has no cache yet.
     pub fn open<A: Addresser, D: Disk>(
         alloc: Global,
         shape: Shape,
@@ -237,6 +237,7 @@ fn begun(
     ensures core { IfOk result (λ cluster. cluster.core ≡ open_core shape limits (opened_with
         (record { logs = taking.logs.items; shares = taking.shares.items })) moment) }
     ensures logs { IfOk result (λ cluster. cluster.logs ≡ taking.logs.items) }
+    ensures uncached { IfOk result (λ cluster. cluster.cache ≡ None) }
     ensures course { IfOk result (λ cluster. cluster.course ≡ begun_course shape entry moment
         (record { logs = taking.logs.items; shares = taking.shares.items })) }
     ensures shape { IfOk result (λ cluster. cluster.core.members.shape ≡ shape) }
@@ -264,6 +265,7 @@ fn begun(
         core,
         logs,
         course,
+        cache: None,
     })
 }
 

@@ -12,7 +12,7 @@ ghost use Rattle.hs_cluster.specs.Jobs.{StandsBeside};
 ghost use Rattle.hs_core_words.specs.Looking.{first_job, known_of, status_of};
 ghost use Rattle.hs_members.specs.Members.{IsPeer, all_peers, is_joining};
 
-use crate::job::do_job;
+use crate::recall::do_first;
 use crate::{Cluster, ClusterFault};
 use hs_core::Core;
 use hs_core_words::Event;
@@ -216,7 +216,15 @@ impl Cluster {
         ensures moment { OnOk result (self.new.core.moment ≤ watch.new) }
         ensures ticks { watch.old ≤ watch.new }
     {
-        let done = do_job(self.alloc, &self.core, &mut self.logs, disks, watch, peer);
+        let done = do_first(
+            self.alloc,
+            &self.core,
+            &mut self.logs,
+            &mut self.cache,
+            disks,
+            watch,
+            peer,
+        );
         let Ok(done) = done else {
             return Err(ClusterFault::NoMemory);
         };

@@ -250,7 +250,7 @@ fn block_of(number: u64, entry: Entry) -> Result<Done, LogFault>
 }
 
 /// Bytes are below 256, as every byte is.
-fn are_bytes(bytes: &[u8])
+pub(crate) fn are_bytes(bytes: &[u8])
     ensures { AreBytes bytes.now }
 {}
 

@@ -38,7 +38,7 @@ module _ (tells : Type 0) (load : Load) (book : Book) (team : Team) (left new : 
 -- the last lines were run from the core and the logs of a cluster that was resumed
 pub runs_last : (tells : Type 0) (load : Load) (book : Book) (team : Team) (left new : List DiskSeen) (core : Core) (did : Result ⊤ ClusterFault) (name : List ℕ → Address) (now line : ℕ) (begun : Running) (start : List DiskSeen) (end : Stand)
     → RunsAll tells name last_lines (record { now = now; cluster = begun; disks = start; line = line }) end did
-    → load.set.name ≡ name → begun ≡ record { core = book.core; logs = team.logs; course = [] } → start ≡ left → line ≡ book.core.progress.last_line → core ≡ end.cluster.core → new ≡ end.disks
+    → load.set.name ≡ name → begun ≡ record { core = book.core; logs = team.logs; course = []; cache = None } → start ≡ left → line ≡ book.core.progress.last_line → core ≡ end.cluster.core → new ≡ end.disks
     → RunsLast tells load book team left new core did
 runs_last tells load book team left new core did name now line begun start end runs named from on at last disks =
     let here : RunsAll tells load.set.name last_lines (begun_at book team left now) end did

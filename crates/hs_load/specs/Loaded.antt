@@ -142,7 +142,7 @@ pub data PutsSummary (writers : ℕ) (ends : List (Result WriterSum WorkFault)) 
 
 -- where the last lines begin: with the core of the book and the logs that are in use, over the disks as those that worked left them
 abbrev pub begun_at : Book → Team → List DiskSeen → ℕ → Stand
-begun_at book team left now = record { now = now; cluster = record { core = book.core; logs = team.logs; course = [] }; disks = left; line = book.core.progress.last_line }
+begun_at book team left now = record { now = now; cluster = record { core = book.core; logs = team.logs; course = []; cache = None }; disks = left; line = book.core.progress.last_line }
 
 -- they were run from there, to their end or to what cut one short; this is the core behind them, and these the disks
 pub record RunsLast (tells : Type 0) (load : Load) (book : Book) (team : Team) (left new : List DiskSeen) (core : Core) (did : Result ⊤ ClusterFault) : Type 0 where

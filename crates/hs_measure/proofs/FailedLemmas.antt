@@ -56,7 +56,7 @@ module _ (seals : Seals) (S : Script) (r : Ran) (story : Story) (on : OnDisks S 
   rose tells told runs disk = go (first_core S.set story.found).ended refl
     where
       go : (o : Option CoreFault) → (first_core S.set story.found).ended ≡ o → DiskRose r (failures true disk (first_core S.set story.found) (all_events story) + loss_count story disk) disk
-      go None going = runs.failed on.one told going (stored going) disk
+      go None going = runs.failed told (runs.shown.read on.one told going (stored going)) disk
       go (Some fault) over =
           let none : failures true disk (first_core S.set story.found) (all_events story) ≡ 0 = ap (λ (es : Events). failures true disk (first_core S.set story.found) es) (no_event fault over) in
           let same : loss_count story disk ≡ failures true disk (first_core S.set story.found) (all_events story) + loss_count story disk = omega (arith, none) in

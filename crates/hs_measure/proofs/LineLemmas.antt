@@ -3,10 +3,12 @@ use Rattle.std.proofs.Common.{◌≡◌, ◌≢◌, ◌⊎◌, inl, inr, ◌∙�
 use Rattle.std.proofs.lemmas.Bool.{cases_eq}
 use Rattle.std.specs.Prelude.{⊤, OnOk, Result, Ok, Err, is_ok}
 use Rattle.hs_standing.proofs.AddressedLemmas.{AllAddressed, lines_addressed}
+use Rattle.hs_cluster.specs.Cached.{AreCached}
 use Rattle.hs_cluster.specs.Calls.{RunsLine, outcome_by, ran_out}
+use Rattle.hs_cluster.specs.Counts.{AreAllCounted}
 use Rattle.hs_cluster.specs.declared.fault.ClusterFault.{ClusterFault}
 use Rattle.hs_cluster.specs.Disks.{DiskSeen}
-use Rattle.hs_cluster.specs.Kept.{AreTold, Shows}
+use Rattle.hs_cluster.specs.Kept.{AreStored, AreTold, Shows}
 use Rattle.hs_cluster.specs.PeerLogs.{KeepsPeers}
 use Rattle.hs_cluster.specs.Rooms.{HaveRecordRoom}
 use Rattle.hs_cluster.specs.Running.{Running}
@@ -116,14 +118,29 @@ module _ (lines : LineLaws) (tells : Type 0) (told : tells) (start : Start) (lin
   }
 
   told_by : (start.set.shape.copies ≡ 1) ⊎ (start.set.shape.copies ≢ 1) → AreTold its.whole r.events
-  told_by (inl one) = r.kept.told told its.whole its.same (its.logs.alone one)
-  told_by (inr more) = ((r.kept.copies told).lists its.whole its.same steady (later_peers (its.logs.several more))).told
+  told_by (inl one) = r.kept.told told its.whole its.same (its.logs.alone one) its.cached
+  told_by (inr more) = ((r.kept.copies told).lists its.whole its.same steady (later_peers (its.logs.several more)) its.cached).told
+
+  -- failed calls that are reported are at the counts, those of reads too, where what is to be read stands in the lists
+  pub line_costs : AreStored its.whole r.events → AreAllCounted old.core r.events disks left
+  line_costs stored = by (cases_eq start.set.shape.copies 1)
+    where
+      by : (start.set.shape.copies ≡ 1) ⊎ (start.set.shape.copies ≢ 1) → AreAllCounted old.core r.events disks left
+      by (inl one) = r.kept.read told its.whole its.same (its.logs.alone one) stored
+      by (inr more) = (r.kept.copies told).read its.whole its.same steady (later_peers (its.logs.several more)) stored
 
   logs_behind : result ≡ Ok tt → HasLogs start.set.shape.copies (runs whole_machine its.whole r.events) new.logs left now
   logs_behind ok = record {
     alone = λ one. from_ok result ok (r.kept.reads_on told its.whole its.same (its.logs.alone one));
     several = λ more. from_ok result ok ((r.kept.copies told).goes_on its.whole its.same steady (later_peers (its.logs.several more)));
   }
+
+  cached_by : (start.set.shape.copies ≡ 1) ⊎ (start.set.shape.copies ≢ 1) → OnOk result (AreCached (runs whole_machine its.whole r.events) new.cache)
+  cached_by (inl one) = r.kept.cached told its.whole its.same (its.logs.alone one) its.cached
+  cached_by (inr more) = (r.kept.copies told).cached its.whole its.same steady (later_peers (its.logs.several more)) its.cached
+
+  cached_behind : result ≡ Ok tt → AreCached (runs whole_machine its.whole r.events) new.cache
+  cached_behind ok = from_ok result ok (cached_by (cases_eq start.set.shape.copies 1))
 
   pub comes : Comes start its.whole r.events
   comes = record {
@@ -156,6 +173,7 @@ module _ (lines : LineLaws) (tells : Type 0) (told : tells) (start : Start) (lin
         same = runs_core its.whole r.events ∙ sym (new_is fine);
         along = goes_on laws start its.whole its.along r.events comes going;
         logs = logs_behind ok;
+        cached = cached_behind ok;
       }
 
       passes : Passes start.commands at

@@ -3,16 +3,19 @@ use Rattle.std.proofs.Common.{◌≡◌, ◌≢◌, ◌⊎◌, ◌∙◌, inl, i
 use Rattle.std.proofs.lemmas.Bool.{cases_eq, cases_lt}
 use Rattle.std.proofs.lemmas.List.{get_or_past}
 use Rattle.std.specs.List.{AllByRecursion, list_any, range_with_len}
-use Rattle.std.specs.Prelude.{⊤, Result, Ok, slice_index_or, unwrap_or}
+use Rattle.std.specs.Prelude.{⊤, OnOk, Result, Ok, slice_index_or, unwrap_or}
 use Rattle.hs_answered.specs.Telling.{Judging}
 use Rattle.hs_standing.proofs.AddressedLemmas.{settle_addressed}
 use Rattle.hs_clauses.proofs.FirstLemmas.{opens_first}
 use Rattle.hs_clauses.proofs.LineLemmas.{opening_due}
 use Rattle.hs_clauses.proofs.ReadLemmas.{BringsAll, applied_all, from_empty, read_brings, read_from_one}
 use Rattle.hs_standing.proofs.FirstRoomLemmas.{first_room}
+use Rattle.hs_cluster.proofs.CachedLemmas.{none_cached}
+use Rattle.hs_cluster.specs.Cached.{AreCached}
 use Rattle.hs_cluster.specs.Calls.{ran_out}
+use Rattle.hs_cluster.specs.Counts.{AreAllCounted}
 use Rattle.hs_cluster.specs.declared.fault.ClusterFault.{ClusterFault}
-use Rattle.hs_cluster.specs.Kept.{AreTold}
+use Rattle.hs_cluster.specs.Kept.{AreStored, AreTold}
 use Rattle.hs_cluster.specs.Opens.{Opens, OpensLists}
 use Rattle.hs_cluster.specs.PeerLogs.{KeepsPeers}
 use Rattle.hs_cluster.specs.Running.{Running}
@@ -211,15 +214,33 @@ module _ (opening : OpeningLaws) (tells : Type 0) (told : tells) (set : Setting)
   has : (set.shape.copies ≡ 1 → ⊥) → KeepsPeers (open_whole set o.found) o.begun.logs o.disks o.found.opened
   has more = o.peers told (calm more) (open_whole set found) (opening.lists set found (whole_opens set found begins.soundly) first_going)
 
+  uncached : AreCached (open_whole set o.found) o.begun.cache
+  uncached = none_cached (open_whole set o.found) o.begun.cache o.uncached
+
   told_by : (set.shape.copies ≡ 1) ⊎ (set.shape.copies ≢ 1) → AreTold (open_whole set o.found) o.events
   told_by (inl one) = o.told one told first_going
-  told_by (inr more) = ((o.copies told).lists (open_whole set found) (sym o.begins) steady (has more)).told
+  told_by (inr more) = ((o.copies told).lists (open_whole set found) (sym o.begins) steady (has more) uncached).told
+
+  -- failed calls that the turns report are at the counts, those of reads too, where what is to be read stands in the lists
+  pub opening_costs : AreStored (open_whole set o.found) o.events → AreAllCounted (first_core set o.found) o.events o.disks span.new
+  opening_costs stored = by (cases_eq set.shape.copies 1)
+    where
+      by : (set.shape.copies ≡ 1) ⊎ (set.shape.copies ≢ 1) → AreAllCounted (first_core set o.found) o.events o.disks span.new
+      by (inl one) = o.read one told first_going stored
+      by (inr more) = subst (λ (x : Core). AreAllCounted x o.events o.disks span.new) o.begins ((o.copies told).read (open_whole set found) (sym o.begins) steady (has more) stored)
 
   logs_behind : done ≡ Ok tt → HasLogs set.shape.copies (runs whole_machine (open_whole set o.found) o.events) cluster.logs span.new span.now
   logs_behind ok = record {
     alone = λ one. from_ok done ok (o.reads_on one told);
     several = λ more. from_ok done ok ((o.copies told).goes_on (open_whole set found) (sym o.begins) steady (has more));
   }
+
+  cached_by : (set.shape.copies ≡ 1) ⊎ (set.shape.copies ≢ 1) → OnOk done (AreCached (runs whole_machine (open_whole set o.found) o.events) cluster.cache)
+  cached_by (inl one) = o.cached one told
+  cached_by (inr more) = (o.copies told).cached (open_whole set found) (sym o.begins) steady (has more) uncached
+
+  cached_behind : done ≡ Ok tt → AreCached (runs whole_machine (open_whole set o.found) o.events) cluster.cache
+  cached_behind ok = from_ok done ok (cached_by (cases_eq set.shape.copies 1))
 
   pub comes : Comes (start_of set commands o.found) (open_whole set o.found) o.events
   comes = record {
@@ -258,6 +279,7 @@ module _ (opening : OpeningLaws) (tells : Type 0) (told : tells) (set : Setting)
         same = runs_core (open_whole set found) o.events ∙ sym (o.core fine);
         along = goes_on along start (open_whole set found) first_along o.events comes going;
         logs = logs_behind ok;
+        cached = cached_behind ok;
       }
 
       first_next : IsNext commands cluster.core 1

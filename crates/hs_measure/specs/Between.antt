@@ -1,5 +1,6 @@
 -- A cluster between two calls, and what one call leaves.
 use Rattle.std.specs.Prelude.{◌≡◌, ◌+◌, ◌*◌, ◌<◌, ℕ, ⊤, false, List, Option, Result, OnOk, take}
+use Rattle.hs_cluster.specs.Cached.{AreCached}
 use Rattle.hs_cluster.specs.Calls.{ran_out}
 use Rattle.hs_cluster.specs.Disks.{DiskSeen}
 use Rattle.hs_cluster.specs.Kept.{CanRead}
@@ -44,12 +45,13 @@ pub record HasLogs (copies : ℕ) (whole : Whole) (logs : List (Option Keeping))
   pub alone : copies ≡ 1 → CanRead whole logs disks
   pub several : (copies ≡ 1 → ⊥) → KeepsPeers whole logs disks since
 
--- a cluster between two calls of such a run, whose core goes on, with its disks since a moment
+-- a cluster between two calls of such a run, whose core goes on, with its disks since a moment; what is cached is of what took effect
 pub record IsInRun (start : Start) (cluster : Running) (disks : List DiskSeen) (since : ℕ) : Type 0 where
   pub whole : Whole
   pub same : whole.core ≡ cluster.core
   pub along : IsAlong start whole
   pub logs : HasLogs start.set.shape.copies whole cluster.logs disks since
+  pub cached : AreCached whole cluster.cache
 
 -- the events of a call, from a core on: behind each front of them what is promised is kept, and so it is of the core that the call leaves, but where memory ran out; behind it the cluster is in the run, and the line after this one comes next
 pub record KeepsOn (start : Start) (line : ℕ) (old : Core) (events : Events) (result : Result ⊤ ClusterFault) (new : Running) (disks : List DiskSeen) (now : ℕ) : Type 0 where

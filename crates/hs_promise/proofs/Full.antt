@@ -192,7 +192,7 @@ the_promise_is_kept = record {
   counts = record { disks = λ peer. same _; sink = same 0; source = same 0 };
   no_load = record { kept = refl; stored = refl };
   cause = (too_many _ refl, refused_entries);
-  calm = record { past = λ one past peer. refl; other = λ peer found is. refl };
+  calm = record { told = λ opened whole peer within none. refl; other = λ peer found is. refl };
   ends = ends;
   told = λ none. absurd none;
 }

@@ -114,7 +114,7 @@ the_promise_is_kept = record {
   counts = record { disks = λ peer. same _; sink = same 0; source = same 0 };
   no_load = record { kept = refl; stored = refl };
   cause = refl;
-  calm = record { past = λ one past peer. refl; other = λ peer found is. refl };
+  calm = record { told = λ opened whole peer within none. refl; other = λ peer found is. refl };
   ends = tt;
   told = λ none. absurd none;
 }

@@ -1,9 +1,13 @@
 -- Clause 5, completeness.
-use Rattle.std.specs.Prelude.{IsSome, List, Some, length, true, ℕ, ◌*◌, ◌+◌, ◌<◌, ◌≡◌, ◌≤◌, ◌⊎◌}
+use Rattle.std.specs.List.{range_with_len}
+use Rattle.std.specs.Prelude.{Bool, IsSome, List, Option, Some, count_by, false, length, true, ℕ, ◌*◌, ◌+◌, ◌<◌, ◌≡◌, ◌≤◌, ◌⊎◌}
 use Rattle.hs_journal.specs.Events.{client_op}
 use Rattle.hs_journal.specs.Order.{IsOfLine, IsPrompt}
 use Rattle.hs_model.specs.Store.{Store}
+use Rattle.hs_limits.specs.declared.shape.Shape.{Shape}
+use Rattle.hs_model.specs.declared.command.Command.{Command}
 use Rattle.hs_model.specs.declared.command.Command.TheVariants as command
+use Rattle.hs_model.specs.declared.op.Op.TheVariants as op
 use Rattle.hs_ports.specs.Moments.{disk_at}
 use Rattle.hs_script.specs.Lines.{lines_of}
 use Rattle.hs_side.specs.declared.header.Header.{Header}
@@ -21,9 +25,26 @@ use Rattle.hs_events.specs.Taken.{peer_count}
 
 -- ---- how a run without failures ends
 
--- the most entries that a run without failures may have
+-- so many entries are enough for a script
 abbrev pub entry_bound : Script → List (List ℕ) → ℕ
 entry_bound S lines = length lines + (2 * S.set.shape.shards + 1) * (delete_count lines + 2) + peer_count S.set.shape
+
+-- a command is a client's deletion
+abbrev pub is_delete : Option Command → Bool
+is_delete (Some (command.Client op.Delete)) = true
+is_delete other = false
+
+-- how many of the lines up to one have such a command
+abbrev pub deletes_up_to : (ℕ → Option Command) → ℕ → ℕ
+deletes_up_to commands line = count_by (λ n. is_delete (commands n)) (range_with_len 1 line)
+
+-- the most entries of a run up to a line, whether disks fail or not: one a line; twice as many for a shard and one for the store as epochs may pass, which are two more than deletions; and one a peer
+abbrev pub entries_most : (ℕ → Option Command) → Shape → ℕ → ℕ
+entries_most commands shape line = line + (2 * shape.shards + 1) * (deletes_up_to commands line + 2) + peer_count shape
+
+-- where the journal was full its limit has no room for the lines that were begun
+abbrev pub FullBeyond : Script → Ran → Type 0
+FullBeyond S r = r.ending ≡ status.OpsFull → S.set.limits.ops < entries_most S.commands S.set.shape r.line
 
 -- the script is in the language and within its bounds, the headers are of the shape, nothing fails, and the journal has room
 pub record MayEndWell (S : Script) (script : List ℕ) (r : Ran) : Type 0 where

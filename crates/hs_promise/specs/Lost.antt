@@ -1,6 +1,6 @@
 -- Why a shard counts as lost, and why a peer is told to be down.
 use Rattle.std.specs.List.{list_any}
-use Rattle.std.specs.Prelude.{Bool, List, Some, if◌then◌else◌, is_none, true, ℕ, ◌&&◌, ◌++◌, ◌-◌, ◌<◌, ◌||◌, ◌≡◌, ◌≤◌, ◌⊎◌}
+use Rattle.std.specs.Prelude.{Bool, List, None, Some, if◌then◌else◌, is_none, true, ℕ, ◌&&◌, ◌++◌, ◌-◌, ◌<◌, ◌||◌, ◌≡◌, ◌≤◌, ◌⊎◌}
 use Rattle.hs_events.specs.Taken.{peer_count}
 use Rattle.hs_fold.specs.Shards.Course.{begins}
 use Rattle.hs_journal.specs.declared.entry.JournalEntry.{JournalEntry}
@@ -56,6 +56,10 @@ extra_note S r peer = if is_aside S r peer && (is_none (list_in (disk_at r.old.d
 -- of a disk that tells its contents there are at most so many notes more than its count rose by
 abbrev pub NotesCause : Script → Ran → Type 0
 NotesCause S r = (peer : ℕ) → DiskRose r (note_count peer (r.journal ++ r.refused) - extra_note S r peer) peer
+
+-- a peer is set aside only where its disk failed, or has no log, or was not yet made equal to the taken log of its shard, which was lost
+abbrev pub AsideCause : Script → Ran → Type 0
+AsideCause S r = (peer : ℕ) → is_aside S r peer ≡ true → DiskRose r 1 peer ⊎ ((list_in (disk_at r.old.disks peer).seen ≡ None) ⊎ (lost_taken S r peer ≡ true))
 
 -- ---- notes end a run
 

@@ -39,7 +39,7 @@ opening_is_whole r (first ∷ rest) = true
 abbrev pub loss_count : Story → ℕ → ℕ
 loss_count story disk = count_by (λ peer. peer.0 == disk) story.found.lost
 
--- a core was opened, and the run went as a story says
+-- a core was opened, and the run went as a story says; the report of a job is what its disk call gave, or with a cache what was read before
 pub record Went (S : Script) (r : Ran) (story : Story) : Type 0 where
   pub found : HasFound S r story
   pub opening : is_walk next_turn (opening_is_whole r story.lines) 0 (first_core S.set story.found) story.opening ≡ true

@@ -4,7 +4,7 @@ use Rattle.hs_script.specs.Reading.{commands}
 use Rattle.hs_promise.specs.Answers.{Answers, Prints}
 use Rattle.hs_promise.specs.Calm.{EndsCalm}
 use Rattle.hs_promise.specs.Causes.{Cause, FullCause}
-use Rattle.hs_promise.specs.Completes.{EndsWell, HasPrompt, MayEndWell, SettlesEach}
+use Rattle.hs_promise.specs.Completes.{EndsWell, FullBeyond, HasPrompt, MayEndWell, SettlesEach}
 use Rattle.hs_promise.specs.Deletes.{Deletes}
 use Rattle.hs_promise.specs.Ends.{Ends}
 use Rattle.hs_promise.specs.Entry.{IsSoundAtEntry, MayStop, entry_store}
@@ -23,6 +23,7 @@ pub record Clauses (S : Script) (r : Ran) : Type 0 where
   pub keeps : KeepsAlong S (entry_store S r) r
   pub deletes : Deletes S (entry_store S r) r
   pub settles : SettlesEach S (entry_store S r) r
+  pub room : FullBeyond S r
   pub ends : IfSome r.old.left (λ script. MayEndWell S script r → EndsWell S r)
 
 -- over disks that tell their contents

@@ -1,5 +1,5 @@
 -- What a call of a cluster keeps, and how it ends.
-use Rattle.std.proofs.Common.{◌≡◌, ◌≢◌, ◌⊎◌, inl, inr, sym, subst, ℕ, zero, suc, ◌+◌, ◌-◌, ◌^◌, ◌<◌, ◌≤◌, min, Bool, true, false, Option, Some, None, refl, arith, take}
+use Rattle.std.proofs.Common.{◌≡◌, ◌⊎◌, inl, inr, sym, subst, ℕ, zero, suc, ◌+◌, ◌-◌, ◌^◌, ◌<◌, ◌≤◌, min, Bool, true, false, Option, Some, None, refl, arith, take}
 use Rattle.std.specs.Prelude.{⊤, Result, Ok, Err}
 use Rattle.hs_clauses.specs.Numbered.{AreNumbered}
 use Rattle.hs_cluster.specs.Calls.{outcome_by, ran_out}
@@ -17,7 +17,6 @@ use Rattle.hs_entry.specs.declared.entry.Entry.{Entry}
 use Rattle.hs_events.specs.Course.{steps}
 use Rattle.hs_events.specs.Due.{Events}
 use Rattle.hs_events.specs.Found.{Found, first_core, opened_list}
-use Rattle.hs_events.specs.Reports.{failures}
 use Rattle.hs_events.specs.Sane.{IsFromOne}
 use Rattle.hs_events.specs.Whole.{Whole}
 use Rattle.hs_fold.specs.Shards.Setting.{Setting}
@@ -25,12 +24,13 @@ use Rattle.hs_limits.specs.declared.shape.Shape.{Shape}
 use Rattle.hs_measure.proofs.AlongLemmas.{TellLaws}
 use Rattle.hs_ports.specs.Fault.{HasRisen}
 use Rattle.hs_ports.specs.Objects.{RoseBy}
+use Rattle.hs_promise.specs.Completes.{entries_most}
 use Rattle.hs_room.proofs.LostLemmas.{FellIn, all_own, lost_by}
 use Rattle.hs_room.proofs.NotedLemmas.{mute_all}
 use Rattle.hs_room.proofs.RiseLemmas.{most_rises}
 use Rattle.hs_room.proofs.SoFarLemmas.{RunHasRoom, alone_none, front_alone, front_room, more, mute_noting, noting, so_has_room}
-use Rattle.hs_room.specs.Room.{Call, EndsWell, HasRoom, IsSoFar, LossBy, LossCause, entries_most, starts_in}
-use Rattle.hs_room.specs.Room.LossBy.{ByCount, ByReading}
+use Rattle.hs_room.specs.Room.{Call, EndsWell, HasRoom, IsSoFar, LossBy, LossCause, starts_in}
+use Rattle.hs_room.specs.Room.LossBy.{ByCount}
 use Rattle.hs_settled.proofs.AskLemmas.{AllIts, Stays, its_ask, its_stay}
 use Rattle.hs_settled.proofs.CausesRunLemmas.{mute}
 use Rattle.hs_settled.specs.Noted.{AllAreOwn}
@@ -56,24 +56,16 @@ rose_once : (before now most more : ℕ) → min (before + suc more) most ≤ no
 rose_once before now most more rose = omega (arith, rose)
 
 -- a count that rose by some failures shows one, or there were none
-pub rose_or : (before now n : ℕ) → RoseBy n before now → (n ≡ 0) ⊎ HasRisen before now
+rose_or : (before now n : ℕ) → RoseBy n before now → (n ≡ 0) ⊎ HasRisen before now
 rose_or before now zero rose = inl refl
 rose_or before now (suc n) rose = inr (rose_once before now (2 ^ 64 - 1) n rose)
 
--- a failure that is told is at the count, with one copy a shard; else it may be one of a job that only read
-module _ (copies peer : ℕ) (call : Call) (count : (copies ≡ 1) ⊎ (copies ≢ 1)) (all : copies ≡ 1 → RoseBy (failures true peer call.core call.events) (seen_at call.old peer).faults (seen_at call.new peer).faults)
-    (some : RoseBy (failures false peer call.core call.events) (seen_at call.old peer).faults (seen_at call.new peer).faults) where
-  pub by_report : 1 ≤ failures true peer call.core call.events → LossBy copies call peer
-  by_report fails = elim count [
-    | inl one ↦ elim (rose_or (seen_at call.old peer).faults (seen_at call.new peer).faults (failures true peer call.core call.events) (all one)) [
-      | inl none ↦ absurd (omega (arith, none, fails))
-      | inr rose ↦ ByCount rose
-    ]
-    | inr several ↦ elim (rose_or (seen_at call.old peer).faults (seen_at call.new peer).faults (failures false peer call.core call.events) some) [
-      | inl none ↦ ByReading several fails
-      | inr rose ↦ ByCount rose
-    ]
-  ]
+-- a failure that is told is at the count
+pub by_report : (call : Call) (peer n : ℕ) → RoseBy n (seen_at call.old peer).faults (seen_at call.new peer).faults → 1 ≤ n → LossBy call peer
+by_report call peer n rose some = elim (rose_or (seen_at call.old peer).faults (seen_at call.new peer).faults n rose) [
+  | inl none ↦ absurd (omega (arith, none, some))
+  | inr risen ↦ ByCount risen
+]
 
 -- ---- how a call ends
 

@@ -31,12 +31,12 @@ use Rattle.hs_model.specs.declared.op.Op.TheVariants as op
 use Rattle.hs_model.specs.Store.{Store}
 use Rattle.hs_ports.specs.Objects.{Objects}
 use Rattle.hs_promise.specs.Answers.{IsEntry}
+use Rattle.hs_promise.specs.Completes.{deletes_up_to, entries_most, is_delete as asks_delete}
 use Rattle.hs_promise.specs.declared.status.Status.TheVariants as status
 use Rattle.hs_promise.specs.Run.{Ran, Script}
 use Rattle.hs_room.proofs.NotedLemmas.{Noting, mute_all, noting_all, noting_first, own_front}
 use Rattle.hs_room.proofs.NotesLemmas.{few_all, few_first, first_lead, started_most}
-use Rattle.hs_room.specs.Room.{HasRoom, deletes_up_to, entries_most, started, starts_in}
-use Rattle.hs_room.specs.Room.{is_delete as asks_delete}
+use Rattle.hs_room.specs.Room.{HasRoom, started, starts_in}
 use Rattle.hs_settled.proofs.CausesListLemmas.{all_at}
 use Rattle.hs_settled.proofs.CausesRunLemmas.{mute}
 use Rattle.hs_settled.proofs.DeletesRunLemmas.{may_front}

@@ -1,5 +1,6 @@
 pub mod CallLemmas
 pub mod CalmLemmas
+pub mod EndedLemmas
 pub mod LineLemmas
 pub mod LostLemmas
 pub mod NotedLemmas

@@ -1,6 +1,5 @@
 -- A line of a cluster whose core is that of a run so far.
 use Rattle.std.proofs.Common.{◌≡◌, ◌⊎◌, inl, inr, ◌∙◌, ap, sym, subst, ℕ, ◌+◌, ◌<◌, ◌≤◌, List, Option, Some, None, refl, arith}
-use Rattle.std.proofs.lemmas.Bool.{cases_eq}
 use Rattle.std.specs.Prelude.{⊤, Result}
 use Rattle.hs_clauses.specs.Numbered.{AreNumbered}
 use Rattle.hs_cluster.specs.Calls.{RunsLine}
@@ -13,15 +12,17 @@ use Rattle.hs_core_words.specs.State.{Core}
 use Rattle.hs_desk.specs.declared.fault.CoreFault.TheVariants as fault
 use Rattle.hs_events.specs.Commands.{AreOfLine, LineAt}
 use Rattle.hs_events.specs.Course.{steps}
+use Rattle.hs_events.specs.Reports.{failures}
 use Rattle.hs_limits.specs.Shape.{peer_of}
 use Rattle.hs_measure.proofs.AlongLemmas.{Comes, LineLaws, may_come}
-use Rattle.hs_measure.proofs.LineLemmas.{are as line_are, at as line_at, come as line_come, comes as line_comes}
+use Rattle.hs_measure.proofs.LineLemmas.{are as line_are, at as line_at, come as line_come, comes as line_comes, line_costs}
 use Rattle.hs_measure.specs.Between.{IsInRun}
 use Rattle.hs_model.specs.declared.command.Command.{Command}
+use Rattle.hs_promise.specs.Completes.{entries_most}
 use Rattle.hs_room.proofs.CallLemmas.{CallLaws, by_report, call_alone, call_ends, call_moments, call_so_far, lost_line, not_full}
 use Rattle.hs_room.proofs.LostLemmas.{FellIn}
 use Rattle.hs_room.proofs.SoFarLemmas.{numbered}
-use Rattle.hs_room.specs.Room.{Call, EndsWell, IsSoFar, KeepsRoom, LossCause, entries_most, starts_in}
+use Rattle.hs_room.specs.Room.{Call, EndsWell, IsSoFar, KeepsRoom, LossCause, starts_in}
 use Rattle.hs_room.specs.Room.LossBy.{ByLine}
 use Rattle.hs_settled.proofs.AskLemmas.{AllIts, line_its}
 use Rattle.hs_settled.proofs.CausesRunLemmas.{mute, mute_is}
@@ -81,23 +82,21 @@ module _ (laws : CallLaws) (lines : LineLaws) (tells : Type 0) (told : tells) (s
   -- ---- how it ends
 
   abbrev call : Call
-  call = record { asked = Some asked; core = old.core; events = r.events; old = disks; new = left }
+  call = record { asked = Some asked; old = disks; new = left }
 
   stored : AreStored its.whole r.events
   stored = laws.stored its.whole its.along.reading.machines r.events its.along.reading.whole (subst (λ (x : Core). AreNumbered x) (sym its.same) (numbered start starts old.core so laws.numbered laws.stays))
 
-  counted : start.set.shape.copies ≡ 1 → AreAllCounted old.core r.events disks left
-  counted one = r.kept.read told its.whole its.same (its.logs.alone one) stored
+  counted : AreAllCounted old.core r.events disks left
+  counted = line_costs lines tells told start line asked since before now old new disks left result its after next asks later r stored
 
-  lost : (g : ℕ) → (steps old.core r.events).ended ≡ Some (fault.ShardLost g) → LossCause start.set.shape (record { asked = Some asked; core = old.core; events = r.events; old = disks; new = left }) g
+  lost : (g : ℕ) → (steps old.core r.events).ended ≡ Some (fault.ShardLost g) → LossCause start.set.shape (record { asked = Some asked; old = disks; new = left }) g
   lost g over = record {
     copy = fell.copy;
     less = fell.less;
     why = elim fell.why [
       | inl asks_so ↦ ByLine (sym mute_asks ∙ asks_so)
-      | inr fails ↦
-          by_report start.set.shape.copies (peer_of start.set.shape g fell.copy) call (cases_eq start.set.shape.copies 1) (λ one. counted one (peer_of start.set.shape g fell.copy))
-          (r.kept.counted.failed (peer_of start.set.shape g fell.copy)) fails
+      | inr fails ↦ by_report call (peer_of start.set.shape g fell.copy) (failures true (peer_of start.set.shape g fell.copy) old.core r.events) (counted (peer_of start.set.shape g fell.copy)) fails
     ];
   }
     where
@@ -105,7 +104,7 @@ module _ (laws : CallLaws) (lines : LineLaws) (tells : Type 0) (told : tells) (s
       fell = lost_line laws start line starts old.core r.events so old_going low may come its_all mute_its g over
 
   pub line_ends : (most : ℕ) → (start.set.shape.copies ≡ 1) ⊎ (starts + starts_in old.core r.events ≤ most) → entries_most start.commands start.set.shape line + most ≤ start.set.limits.ops
-      → EndsWell start.set.shape (record { asked = Some asked; core = old.core; events = r.events; old = disks; new = left }) result
+      → EndsWell start.set.shape (record { asked = Some asked; old = disks; new = left }) result
   line_ends most enough fits = call_ends start.set.shape call result new.core r.does.outcome
       (λ fine full. not_full laws start line starts old.core r.events so old_going low may come its_all mute_its most enough fits (ap (λ (x : Core). x.ended) (sym (r.does.core fine)) ∙ full))
       (λ fine g over. lost g (ap (λ (x : Core). x.ended) (sym (r.does.core fine)) ∙ over))

@@ -1,6 +1,5 @@
 -- A cluster that opens over sound lists: its core is that of a run so far.
-use Rattle.std.proofs.Common.{◌≡◌, ◌⊎◌, ◌∙◌, inl, inr, ap, sym, subst, ℕ, ◌+◌, ◌≤◌, not, true, false, Option, Some, None, refl, arith}
-use Rattle.std.proofs.lemmas.Bool.{cases_eq}
+use Rattle.std.proofs.Common.{◌≡◌, ◌⊎◌, ◌∙◌, inl, inr, ap, sym, subst, ℕ, ◌+◌, ◌≤◌, not, true, Option, Some, None, refl, arith}
 use Rattle.std.specs.Prelude.{⊤, Result}
 use Rattle.hs_clauses.specs.Run.{ReadsInStep}
 use Rattle.hs_cluster.specs.Calls.{ran_out}
@@ -19,16 +18,17 @@ use Rattle.hs_fold.specs.Shards.Setting.{Setting}
 use Rattle.hs_journal.specs.Events.{client_op}
 use Rattle.hs_limits.specs.Shape.{IsShape, peer_of}
 use Rattle.hs_measure.proofs.AlongLemmas.{Comes, may_come}
-use Rattle.hs_measure.proofs.OpenedLemmas.{OpeningLaws, begins as run_begins, come as opening_come, comes as opening_comes, no_line, reading as opens_reading}
+use Rattle.hs_measure.proofs.OpenedLemmas.{OpeningLaws, begins as run_begins, come as opening_come, comes as opening_comes, no_line, opening_costs, reading as opens_reading}
 use Rattle.hs_measure.specs.Between.{start_of}
 use Rattle.hs_model.specs.declared.command.Command.{Command}
 use Rattle.hs_model.specs.declared.command.Command.TheVariants as command
 use Rattle.hs_ports.specs.Objects.{RoseBy}
+use Rattle.hs_promise.specs.Completes.{entries_most}
 use Rattle.hs_room.proofs.CallLemmas.{CallLaws, by_report, call_alone, call_ends, call_moments, call_so_far, lost_line, not_full}
 use Rattle.hs_room.proofs.LostLemmas.{FellIn}
 use Rattle.hs_room.proofs.SoFarLemmas.{first_so_far}
 use Rattle.hs_room.proofs.StartedLemmas.{starts_or}
-use Rattle.hs_room.specs.Room.{Call, EndsWell, IsSoFar, KeepsRoom, LossCause, entries_most, starts_in}
+use Rattle.hs_room.specs.Room.{Call, EndsWell, IsSoFar, KeepsRoom, LossCause, starts_in}
 use Rattle.hs_settled.proofs.AskLemmas.{AllIts, opening_its}
 use Rattle.hs_settled.proofs.CausesRunLemmas.{mute}
 use Rattle.hs_sound.specs.Stay.{AreSoundAlong}
@@ -102,27 +102,27 @@ module _ (opening : OpeningLaws) (laws : CallLaws) (tells : Type 0) (told : tell
   -- ---- how it ends
 
   abbrev call : Call
-  call = record { asked = None; core = first_core set o.found; events = o.events; old = span.old; new = span.new }
+  call = record { asked = None; old = span.old; new = span.new }
 
   stores : AreStored (open_whole set o.found) o.events
   stores = laws.stored (open_whole set found) reading.machines o.events reading.whole (laws.numbered set found begins.soundly.lists)
 
-  counted : set.shape.copies ≡ 1 → AreAllCounted (first_core set o.found) o.events o.disks span.new
-  counted one = o.read one told first_going stores
+  counted : AreAllCounted (first_core set o.found) o.events o.disks span.new
+  counted = opening_costs opening tells told set commands span cluster done shape calm names nobody o first_going sound stores
 
   rose_below : (n low high now : ℕ) → low ≤ high → RoseBy n high now → RoseBy n low now
   rose_below n low high now up rose = omega (arith, up, rose)
 
-  lost : (g : ℕ) → (steps (first_core set o.found) o.events).ended ≡ Some (fault.ShardLost g) → LossCause set.shape (record { asked = None; core = first_core set o.found; events = o.events; old = span.old; new = span.new }) g
+  lost : (g : ℕ) → (steps (first_core set o.found) o.events).ended ≡ Some (fault.ShardLost g) → LossCause set.shape (record { asked = None; old = span.old; new = span.new }) g
   lost g over = record {
     copy = fell.copy;
     less = fell.less;
     why = elim fell.why [
       | inl asks ↦ absurd (no_line_asks asks)
       | inr fails ↦
-          by_report set.shape.copies (peer_of set.shape g fell.copy) call (cases_eq set.shape.copies 1)
-          (λ one. rose_below (failures true (peer_of set.shape g fell.copy) first o.events) (seen_at span.old (peer_of set.shape g fell.copy)).faults (seen_at o.disks (peer_of set.shape g fell.copy)).faults (seen_at span.new (peer_of set.shape g fell.copy)).faults (o.falls (peer_of set.shape g fell.copy)) (counted one (peer_of set.shape g fell.copy)))
-          (rose_below (failures false (peer_of set.shape g fell.copy) first o.events) (seen_at span.old (peer_of set.shape g fell.copy)).faults (seen_at o.disks (peer_of set.shape g fell.copy)).faults (seen_at span.new (peer_of set.shape g fell.copy)).faults (o.falls (peer_of set.shape g fell.copy)) (o.counted.failed (peer_of set.shape g fell.copy))) fails
+          by_report call (peer_of set.shape g fell.copy) (failures true (peer_of set.shape g fell.copy) first o.events)
+          (rose_below (failures true (peer_of set.shape g fell.copy) first o.events) (seen_at span.old (peer_of set.shape g fell.copy)).faults (seen_at o.disks (peer_of set.shape g fell.copy)).faults (seen_at span.new (peer_of set.shape g fell.copy)).faults (o.falls (peer_of set.shape g fell.copy)) (counted (peer_of set.shape g fell.copy)))
+          fails
     ];
   }
     where
@@ -133,7 +133,7 @@ module _ (opening : OpeningLaws) (laws : CallLaws) (tells : Type 0) (told : tell
       no_line_asks asks = let both : None ≡ Some (command.Fail (peer_of set.shape g fell.copy)) = asks in cc both
 
   pub opened_ends : entries_most commands set.shape 0 ≤ set.limits.ops
-      → EndsWell set.shape (record { asked = None; core = first_core set o.found; events = o.events; old = span.old; new = span.new }) done
+      → EndsWell set.shape (record { asked = None; old = span.old; new = span.new }) done
   opened_ends fits = call_ends set.shape call done cluster.core o.outcome
       (λ fine full. not_full laws start 0 0 first o.events so first_going low may come its_all mute_its 0 (inr (let none : starts_in (first_core set o.found) o.events ≡ 0 = none_starts in omega (arith, none))) (omega (arith, fits)) (ap (λ (x : Core). x.ended) (sym (o.core fine)) ∙ full))
       (λ fine g over. lost g (ap (λ (x : Core). x.ended) (sym (o.core fine)) ∙ over))

@@ -3,7 +3,7 @@ use Rattle.std.proofs.Common.{◌≡◌, ℕ, zero, suc, ◌+◌, ◌-◌, ◌*�
 use Rattle.std.specs.List.{range_with_len}
 use Rattle.hs_limits.specs.declared.shape.Shape.{Shape}
 use Rattle.hs_model.specs.declared.command.Command.{Command}
-use Rattle.hs_room.specs.Room.{deletes_up_to, entries_most, is_delete}
+use Rattle.hs_promise.specs.Completes.{deletes_up_to, entries_most, is_delete}
 use Rattle.hs_settled.proofs.EndsCountLemmas.{many, many-counted, times, times-is, times_le}
 
 count_rises : (p : ℕ → Bool) (from low high : ℕ) → low ≤ high → many p (range_with_len from low) ≤ many p (range_with_len from high)

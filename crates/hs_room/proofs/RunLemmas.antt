@@ -1,5 +1,6 @@
 -- A run whose journal has room for its lines does not end as the journal is full.
 use Rattle.std.proofs.Common.{◌≡◌, ◌⊎◌, inl, inr, ◌∙◌, ap, sym, subst, ℕ, zero, suc, ◌+◌, ◌-◌, ◌*◌, ◌<◌, ◌≤◌, ◌++◌, Bool, true, false, List, [], ◌∷◌, Option, Some, IsSome, refl, arith, length, take}
+use Rattle.std.proofs.lemmas.Bool.{cases_lt}
 use Rattle.std.specs.Prelude.{count_by, slice_get}
 use Rattle.hs_clauses.specs.Asked.{start_of}
 use Rattle.hs_clauses.specs.Shown.{RunsSoundly}
@@ -18,6 +19,7 @@ use Rattle.hs_limits.specs.declared.limits.Limits.{Limits}
 use Rattle.hs_measure.specs.Promised.{KeepsPromise}
 use Rattle.hs_model.specs.declared.command.Command.{Command}
 use Rattle.hs_model.specs.declared.command.Command.TheVariants as command
+use Rattle.hs_promise.specs.Completes.{FullBeyond, deletes_up_to, entries_most}
 use Rattle.hs_promise.specs.Ending.{ending_of}
 use Rattle.hs_promise.specs.Run.{Ran, Script}
 use Rattle.hs_promise.specs.Story.{Story, all_events, last_core}
@@ -26,7 +28,7 @@ use Rattle.hs_room.proofs.CalmLemmas.{RoomLaws, line_within, most_of, noted_last
 use Rattle.hs_room.proofs.NotedLemmas.{Noting}
 use Rattle.hs_room.proofs.RiseLemmas.{most_more}
 use Rattle.hs_room.proofs.StartedLemmas.{heard_sum, heards, heards_long, unheard_line}
-use Rattle.hs_room.specs.Room.{deletes_up_to, entries_most, starts_in}
+use Rattle.hs_room.specs.Room.{starts_in}
 use Rattle.hs_settled.proofs.CausesRunLemmas.{all_ask_so, all_come_so, flat_is, last_line, mute, mute_some, opened_kept}
 use Rattle.hs_settled.proofs.EndsCountLemmas.{many, many-counted}
 use Rattle.hs_settled.proofs.KeptLemmas.{all_own}
@@ -142,10 +144,17 @@ module _ (laws : RoomLaws) (S : Script) (r : Ran) (story : Story) (run : RunsSou
       let upto = low in
       omega (arith, all, same, line_same, rises, sum, count, starts, upto)
 
-  pub never_full : entries_most S.commands S.set.shape r.line ≤ S.set.limits.ops → r.ending ≡ status.OpsFull → ⊥
+  never_full : entries_most S.commands S.set.shape r.line ≤ S.set.limits.ops → r.ending ≡ status.OpsFull → ⊥
   never_full fits is =
       let ended : (last_core S story).ended ≡ Some fault.OpsFull = run.went.ends.full (ap (λ s. (ending_of s).full) is) in
       let over : (last_core S story).limits.ops < length (told_of (last_core S story)) = noted.ends.full ended in
       let limit : (last_core S story).limits.ops ≡ S.set.limits.ops = ap (λ (l : Limits). l.ops) noted.limited in
       let all = most in
       omega (arith, over, limit, all, fits)
+
+  -- so the limit has no room for these
+  pub full_beyond : FullBeyond S r
+  full_beyond is = elim (cases_lt S.set.limits.ops (entries_most S.commands S.set.shape r.line)) [
+    | inl low ↦ low
+    | inr fits ↦ absurd (never_full fits is)
+  ]

@@ -1,7 +1,6 @@
 -- How many entries a journal has at most, by the lines that came; and how a call of a cluster ends whose journal has room.
-use Rattle.std.specs.List.{range_with_len}
 use Rattle.std.specs.Option.{option_map_or}
-use Rattle.std.specs.Prelude.{◌≡◌, ◌<◌, ◌≤◌, ℕ, ◌+◌, ◌*◌, ◌==◌, ◌&&◌, ⊤, Bool, true, false, cond, List, [], ◌∷◌, Option, Some, None, Result, Ok, Err, count_by, if◌then◌else◌, is_none, is_some, length, take}
+use Rattle.std.specs.Prelude.{◌≡◌, ◌<◌, ◌≤◌, ℕ, ◌+◌, ◌==◌, ◌&&◌, ⊤, false, cond, List, [], ◌∷◌, Option, Some, None, Result, Ok, Err, if◌then◌else◌, is_none, is_some, length, take}
 use Rattle.hs_cluster.specs.Calls.{ran_out}
 use Rattle.hs_cluster.specs.declared.fault.ClusterFault.{ClusterFault}
 use Rattle.hs_cluster.specs.declared.fault.ClusterFault.TheVariants as cluster
@@ -16,8 +15,6 @@ use Rattle.hs_desk.specs.declared.fault.CoreFault.TheVariants as fault
 use Rattle.hs_events.specs.Course.{steps}
 use Rattle.hs_events.specs.Due.{Events}
 use Rattle.hs_events.specs.Found.{Found, first_core}
-use Rattle.hs_events.specs.Reports.{failures}
-use Rattle.hs_events.specs.Taken.{peer_count}
 use Rattle.hs_limits.specs.declared.shape.Shape.{Shape}
 use Rattle.hs_limits.specs.Shape.{peer_of}
 use Rattle.hs_model.specs.declared.command.Command.{Command}
@@ -25,26 +22,12 @@ use Rattle.hs_model.specs.declared.command.Command.TheVariants as command
 use Rattle.hs_model.specs.declared.op.Op.TheVariants as op
 use Rattle.hs_model.specs.Refusals.{first}
 use Rattle.hs_ports.specs.Fault.{HasRisen}
+use Rattle.hs_promise.specs.Completes.{entries_most}
 use Rattle.hs_settled.specs.Noted.{AllAreOwn}
 use Rattle.hs_standing.specs.Run.{MayRun, RunBegins}
 use Rattle.hs_standing.specs.Standing.{AllMayKeep}
 use Rattle.hs_standing.specs.Start.{Start}
 use Rattle.hs_told.specs.InTurn.{told_of}
-
--- ---- the lines up to one
-
--- a command is a client's deletion
-abbrev pub is_delete : Option Command → Bool
-is_delete (Some (command.Client op.Delete)) = true
-is_delete other = false
-
--- how many of the lines up to one have such a command
-abbrev pub deletes_up_to : (ℕ → Option Command) → ℕ → ℕ
-deletes_up_to commands line = count_by (λ n. is_delete (commands n)) (range_with_len 1 line)
-
--- the most entries of a run up to a line: one a line; twice as many for a shard and one for the store as epochs may pass, which are two more than deletions; and one a peer
-abbrev pub entries_most : (ℕ → Option Command) → Shape → ℕ → ℕ
-entries_most commands shape line = line + (2 * shape.shards + 1) * (deletes_up_to commands line + 2) + peer_count shape
 
 -- ---- a core
 
@@ -85,25 +68,22 @@ pub record KeepsRoom (start : Start) (starts : ℕ) (old : Core) (events : Event
   pub so_far : ran_out result ≡ false → IsSoFar start (starts + starts_in old events) new.core
   pub alone : start.set.shape.copies ≡ 1 → (n : ℕ) → starts + starts_in old (take n events) ≡ 0
 
--- a call: what was asked, which is of no line in opening, the core before it and its events, and the disks before and behind
+-- a call: what was asked, which is of no line in opening, and the disks before and behind
 pub record Call : Type 0 where
   pub asked : Option Command
-  pub core : Core
-  pub events : Events
   pub old : List DiskSeen
   pub new : List DiskSeen
 
--- why a call lost a peer: its line is to fail it, or the count of failed calls of its disk rose; or, with several copies, a job that only read its disk reported that it failed
-pub data LossBy (copies : ℕ) (call : Call) (peer : ℕ) : Type 0 where
-  ByLine : call.asked ≡ Some (command.Fail peer) → LossBy copies call peer
-  ByCount : HasRisen (seen_at call.old peer).faults (seen_at call.new peer).faults → LossBy copies call peer
-  ByReading : (copies ≡ 1 → ⊥) → 1 ≤ failures true peer call.core call.events → LossBy copies call peer
+-- why a call lost a peer: its line is to fail it, or the count of failed calls of its disk rose
+pub data LossBy (call : Call) (peer : ℕ) : Type 0 where
+  ByLine : call.asked ≡ Some (command.Fail peer) → LossBy call peer
+  ByCount : HasRisen (seen_at call.old peer).faults (seen_at call.new peer).faults → LossBy call peer
 
 -- why it lost a shard: so it lost one of its peers
 pub record LossCause (shape : Shape) (call : Call) (shard : ℕ) : Type 0 where
   pub copy : ℕ
   pub less : copy < shape.copies
-  pub why : LossBy shape.copies call (peer_of shape shard copy)
+  pub why : LossBy call (peer_of shape shard copy)
 
 -- it goes on, or memory ran out, or a shard is lost with its cause
 abbrev pub EndsWell : Shape → Call → Result ⊤ ClusterFault → Type 0

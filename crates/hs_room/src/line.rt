@@ -7,7 +7,8 @@ ghost use Rattle.hs_cluster.specs.Kept.{Shows};
 ghost use Rattle.hs_cluster.specs.Running.{Running};
 ghost use Rattle.hs_measure.specs.Between.{IsInRun};
 ghost use Rattle.hs_model.specs.declared.command.Command.{Command};
-ghost use Rattle.hs_room.specs.Room.{EndsWell, IsSoFar, KeepsRoom, entries_most, starts_in};
+ghost use Rattle.hs_promise.specs.Completes.{entries_most};
+ghost use Rattle.hs_room.specs.Room.{EndsWell, IsSoFar, KeepsRoom, starts_in};
 ghost use Rattle.hs_standing.specs.Script.{IsNext};
 ghost use Rattle.hs_standing.specs.Start.{Start};
 
@@ -62,8 +63,6 @@ pub fn each_line_has_room<D: Disk>()
         → entries_most start.commands start.set.shape line + more ≤ start.set.limits.ops →
         EndsWell start.set.shape (record {
           asked = Some command;
-          core = old.core;
-          events = runs.events;
           old = disks;
           new = left;
         }) result }

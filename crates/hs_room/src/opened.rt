@@ -9,7 +9,8 @@ ghost use Rattle.hs_journal.specs.Events.{client_op};
 ghost use Rattle.hs_limits.specs.Shape.{IsShape};
 ghost use Rattle.hs_measure.specs.Between.{start_of};
 ghost use Rattle.hs_model.specs.declared.command.Command.{Command};
-ghost use Rattle.hs_room.specs.Room.{EndsWell, KeepsRoom, entries_most};
+ghost use Rattle.hs_promise.specs.Completes.{entries_most};
+ghost use Rattle.hs_room.specs.Room.{EndsWell, KeepsRoom};
 ghost use Rattle.hs_sound.specs.Stay.{AreSoundAlong};
 ghost use Rattle.hs_standing.specs.Held.{GivesAddresses};
 ghost use Rattle.hs_standing.specs.Lists.{whole_from};
@@ -57,8 +58,6 @@ pub fn a_cluster_opens_with_room<D: Disk>()
         → entries_most commands set.shape 0 ≤ set.limits.ops →
         EndsWell set.shape (record {
           asked = None;
-          core = first_core set opens.found;
-          events = opens.events;
           old = span.old;
           new = span.new;
         }) done }

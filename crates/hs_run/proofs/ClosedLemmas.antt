@@ -69,12 +69,6 @@ closed_scripted tells set old new (cluster.ShardLost shard) h = absurd h
 closed_scripted tells set old new cluster.OpsFull h = absurd h
 closed_scripted tells set old new cluster.NoMemory h = refl
 
-closed_past : (tells : Type 0) (set : Setting) (old new : List DiskSeen) (fault : ClusterFault) → IsClosed tells set.shape old new fault → (ending_of (status_of (Err (of_cluster fault)) 0)).past ≡ true → ⊥
-closed_past tells set old new (cluster.WrongShape peer found) h past = false≢true past
-closed_past tells set old new (cluster.ShardLost shard) h past = h
-closed_past tells set old new cluster.OpsFull h past = h
-closed_past tells set old new cluster.NoMemory h past = false≢true past
-
 closed_ended : (tells : Type 0) (set : Setting) (old new : List DiskSeen) (fault : ClusterFault) (lines : List (List ℕ)) (rest : List ℕ) → IsClosed tells set.shape old new fault → HasEnded (status_of (Err (of_cluster fault)) 0) lines 0 [] rest
 closed_ended tells set old new (cluster.WrongShape peer found) lines rest h = (refl, refl)
 closed_ended tells set old new (cluster.ShardLost shard) lines rest h = absurd h
@@ -304,10 +298,7 @@ module _ (tells : Type 0) (set : Setting) (span : Taking) (fault : ClusterFault)
     no_load = record { kept = refl; stored = refl };
     causes = closed_causes tells set span.old span.new fault old new closed;
     within = closed_within tells set span.old span.new fault closed;
-    calm = record {
-      past = λ one past. absurd (closed_past tells set span.old span.new fault closed past);
-      other = closed_other tells set span.old span.new fault old new was is closed;
-    };
+    others = closed_other tells set span.old span.new fault old new was is closed;
     left = λ some. subst (λ (o : Option (List ℕ)). IsSome o) (sym unread) some;
     ends = if_any (λ told. IfSome new.left (Ends r told)) old.left (λ told there. closed_by told there);
     past = closed_keeps;

@@ -1,16 +1,16 @@
 -- What a run shows of its disks, in the words of its objects.
-use Rattle.std.proofs.Common.{◌≡◌, inl, inr, ◌∙◌, ap, sym, subst, ℕ, zero, suc, ◌+◌, ◌-◌, ◌^◌, ◌<◌, ◌≤◌, ◌==◌, false, true, List, [], ◌∷◌, Option, Some, None, refl, arith, map, min, take}
-use Rattle.std.specs.Prelude.{IfSome, count_by}
-use Rattle.hs_cluster.proofs.CountLemmas.{falls_then, faults_seen}
+use Rattle.std.proofs.Common.{◌≡◌, ◌⊎◌, inl, inr, ◌∙◌, ap, sym, subst, ℕ, zero, suc, ◌+◌, ◌-◌, ◌^◌, ◌<◌, ◌≤◌, ◌==◌, false, true, List, [], ◌∷◌, Option, Some, None, refl, arith, map, min, take}
+use Rattle.std.specs.Prelude.{IfSome, count_by, slice_index_or}
+use Rattle.hs_cluster.proofs.CountLemmas.{falls_then, faults_seen, rose_then}
 use Rattle.hs_cluster.proofs.RunLemmas.{all_failed, lost_before, some_failed}
-use Rattle.hs_cluster.specs.Counts.{NoneFalls, NoneRises}
+use Rattle.hs_cluster.specs.Counts.{AreAllCounted, NoneFalls}
 use Rattle.hs_cluster.specs.Disks.{DiskSeen, seen_at, stands_of}
-use Rattle.hs_cluster.specs.Kept.{AreStored, AreTold, IsTold, Span}
-use Rattle.hs_cluster.specs.RunsOn.{RunsOn}
+use Rattle.hs_cluster.specs.Kept.{AreTold, IsTold, Span}
+use Rattle.hs_cluster.specs.RunsOn.{RunsOn, StandUntold}
 use Rattle.hs_desk.specs.declared.done.Done.{Done}
 use Rattle.hs_events.specs.Asked.{report_in}
 use Rattle.hs_events.specs.Due.{Events}
-use Rattle.hs_events.specs.Found.{Found, first_core}
+use Rattle.hs_events.specs.Found.{Found, first_core, starts_good}
 use Rattle.hs_events.specs.Reports.{TellsOf, failures}
 use Rattle.hs_events.specs.Taken.{peer_count}
 use Rattle.hs_events.specs.Whole.{Whole, floor, open_whole, reach, step_whole}
@@ -20,9 +20,9 @@ use Rattle.hs_ports.specs.Disk.{IsImage, Standing}
 use Rattle.hs_ports.specs.Fault.{HasRisen}
 use Rattle.hs_ports.specs.Moments.{disk_at}
 use Rattle.hs_ports.specs.Objects.{KeepsPast, Objects, RoseBy, faults_at}
-use Rattle.hs_promise.specs.Found.{IsReadAs}
+use Rattle.hs_promise.specs.Found.{IsReadAs, IsToldAside, told_failures}
 use Rattle.hs_promise.specs.Reports.{TellTheirLists}
-use Rattle.hs_promise.specs.Run.{Ran, Script}
+use Rattle.hs_promise.specs.Run.{DiskRose, Ran, Script}
 use Rattle.hs_promise.specs.Story.{Story, all_events}
 use Rattle.hs_side.specs.Current.{list_in}
 use Rattle.hs_taking.specs.Past.{PastStays}
@@ -75,8 +75,10 @@ falls_is old new disks left was is falls k =
     let low = falls k in
     omega (arith, a, b, low)
 
-pub calm_is : (old new : Objects) (disks left : List DiskSeen) → AreHanded old disks → AreHanded new left → NoneRises disks left → (k : ℕ) → faults_at new.disk_faults k ≡ faults_at old.disk_faults k
-calm_is old new disks left was is none k = count_is new left is k ∙ none k ∙ sym (count_is old disks was k)
+-- that of one stands
+pub stands_as : (set : Setting) (span : Span) (found : Found) (events : Events) (old new : Objects) → AreHanded old span.disks → AreHanded new span.left → StandUntold set found events span.disks span.left
+    → (disk : ℕ) → starts_good found disk ≡ true → failures true disk (first_core set found) events ≡ 0 → faults_at new.disk_faults disk ≡ faults_at old.disk_faults disk
+stands_as set span found events old new was is stands disk good none = count_is new span.left is disk ∙ stands disk good none ∙ sym (count_is old span.disks was disk)
 
 -- ---- the past
 
@@ -139,9 +141,33 @@ lost_by tells set span found events old new was is shown told disk =
     rose_is lost old new span.disks span.left was is disk
     (up_to (min ((seen_at span.disks disk).faults + lost) (2 ^ 64 - 1)) (seen_at shown.disks disk).faults (seen_at span.left disk).faults (lost_before tells set span found events shown told disk) (shown.counted.later disk))
 
-pub failed_by : (tells : Type 0) (set : Setting) (span : Span) (found : Found) (events : Events) (old new : Objects) → AreHanded old span.disks → AreHanded new span.left → RunsOn tells set span found events → set.shape.copies ≡ 1 → tells
-    → (first_core set found).ended ≡ None → AreStored (open_whole set found) events
+pub failed_by : (tells : Type 0) (set : Setting) (span : Span) (found : Found) (events : Events) (old new : Objects) → AreHanded old span.disks → AreHanded new span.left → (shown : RunsOn tells set span found events) → tells
+    → AreAllCounted (first_core set found) events shown.disks span.left
     → (disk : ℕ) → RoseBy (failures true disk (first_core set found) events + count_by (λ peer. peer.0 == disk) found.lost) (faults_at old.disk_faults disk) (faults_at new.disk_faults disk)
-failed_by tells set span found events old new was is shown one told going stored disk =
+failed_by tells set span found events old new was is shown told counted disk =
     rose_is (failures true disk (first_core set found) events + count_by (λ peer. peer.0 == disk) found.lost) old new span.disks span.left was is disk
-    (all_failed tells set span found events shown one told going stored disk)
+    (all_failed tells set span found events shown told counted disk)
+
+-- ---- whom opening set aside, where the disks tell and all failures that events report are at the counts
+
+module _ (tells : Type 0) (S : Script) (r : Ran) (story : Story) (runs : RunsOnDisks tells S r story) (told : tells) (counted : AreAllCounted (first_core S.set story.found) (all_events story) runs.shown.disks runs.span.left) where
+  -- a disk that failed before the first turn failed beside all that is told later
+  rose_first : (peer : ℕ) → HasRisen (seen_at runs.span.disks peer).faults (seen_at runs.shown.disks peer).faults → DiskRose r (1 + told_failures true S story peer) peer
+  rose_first peer rose =
+      rose_is (1 + told_failures true S story peer) r.old r.new runs.span.disks runs.span.left runs.old runs.new peer
+      (rose_then (2 ^ 64 - 1) (seen_at runs.span.disks peer).faults (seen_at runs.shown.disks peer).faults (seen_at runs.span.left peer).faults 1 (told_failures true S story peer) rose (counted peer))
+
+  pub aside_as : (peer : ℕ) → peer < peer_count S.set.shape → starts_good story.found peer ≡ false → IsToldAside S r story peer
+  aside_as peer low bad = elim ((runs.shown.finds.each peer low).aside bad) [
+    | inl rose ↦ inl (rose_first peer rose)
+    | inr why ↦ elim why [
+      | inl none ↦ by_log none ((runs.shown.finds.each peer low).read told)
+      | inr behind ↦ inr (inr (record { lost = behind.lost; among = behind.among; same_shard = behind.same_shard }))
+    ]
+  ]
+    where
+      by_log : slice_index_or story.found.logs peer None ≡ None
+          → (slice_index_or story.found.logs peer None ≡ list_in (seen_at runs.span.disks peer).stands.seen) ⊎ ((slice_index_or story.found.logs peer None ≡ None) × HasRisen (seen_at runs.span.disks peer).faults (seen_at runs.shown.disks peer).faults)
+          → IsToldAside S r story peer
+      by_log none (inl same) = inr (inl (none, ap (λ (disk : Standing). list_in disk.seen) (disk_is r.old runs.span.disks runs.old peer) ∙ sym same ∙ none))
+      by_log none (inr failed) = inl (rose_first peer failed.1)

@@ -230,3 +230,14 @@ ends_opening script left did running part result line outcome told zero cut put 
       within = omega (arith, zero);
       cause = if_any (HasEnded (status_of result line) (lines_of script) line []) left (λ rest is. within_ended result (lines_of script) line [] rest stops (λ same. refl) (omega arith));
     }
+
+-- memory was wanting before the first line
+pub ends_unread : (script : List ℕ) (left : Option (List ℕ)) (halt : Stop) (line : ℕ) → left ≡ Some script → line ≡ 0 → halt ≡ stop.NoMemory → EndsBy script left (Err halt) line
+ends_unread script left halt line told zero is = record {
+  taken = [];
+  parted = ap (before []) told;
+  good = λ n low bad. none_bad (lines_of script) n bad.line (omega (arith, low, zero)) bad.at;
+  within = omega (arith, zero);
+  cause = if_any (HasEnded (status_of (Err halt) line) (lines_of script) line []) left
+      (λ rest there. within_ended (Err halt) (lines_of script) line [] rest (subst (λ s. IsWithin (Err s)) (sym is) tt) (λ same. refl) (omega arith));
+}

@@ -6,14 +6,14 @@ use Rattle.std.proofs.lemmas.List.Elements.{Contains-get_or}
 use Rattle.std.specs.Prelude.{All, Contains, is_ok, slice_index_or, ⊤}
 use Rattle.hs_cluster.proofs.CountLemmas.{rose_then}
 use Rattle.hs_cluster.proofs.OpenedLemmas.{opens_so}
-use Rattle.hs_cluster.proofs.RunLemmas.{runs_opened}
+use Rattle.hs_cluster.proofs.RunLemmas.{runs_opened, untold_opened}
 use Rattle.hs_cluster.specs.Calls.{ran_out}
 use Rattle.hs_cluster.specs.declared.fault.ClusterFault.{ClusterFault}
 use Rattle.hs_cluster.specs.Disks.{AreReady, DiskSeen, seen_at, stands_of}
 use Rattle.hs_cluster.specs.Kept.{Span as Kept}
 use Rattle.hs_cluster.specs.Opens.{Finds, IsLostLog, Opens}
 use Rattle.hs_cluster.specs.Running.{Running}
-use Rattle.hs_cluster.specs.RunsOn.{CanRunOn, RunsOn}
+use Rattle.hs_cluster.specs.RunsOn.{CanRunOn, RunsOn, StandUntold}
 use Rattle.hs_core_words.specs.State.{Core}
 use Rattle.hs_events.specs.Beginning.{first_items}
 use Rattle.hs_events.specs.Course.{items_of, steps}
@@ -107,6 +107,7 @@ opened_so tells set span cluster did opens old disks got line entry left since =
   answered = answered_steps set.limits.ops (first_core set opens.found) opens.events opens.found.opened span.now (answered_opens set.shape set.limits (opens_with set opens.found) opens.found.opened) opens.rises;
   shown = as_span (runs_opened tells set span cluster did opens);
   may = λ fine. may_span (can_first tells set span cluster did opens fine);
+  untold = λ out. subst (λ (d : List DiskSeen). StandUntold set opens.found opens.events span.old d) (sym left) (untold_opened tells set span cluster did opens out);
   since = since;
 }
   where

@@ -5,10 +5,11 @@ use Rattle.std.proofs.lemmas.List.{append-nil}
 use Rattle.std.specs.Prelude.{IfErr, IfSome, if◌then◌else◌, is_ok, ⊤}
 use Rattle.hs_cluster.specs.Calls.{outcome_by, ran_out}
 use Rattle.hs_cluster.specs.declared.fault.ClusterFault.{ClusterFault}
+use Rattle.hs_cluster.specs.declared.fault.ClusterFault.TheVariants as cluster
 use Rattle.hs_cluster.specs.Disks.{DiskSeen, stands_of}
 use Rattle.hs_cluster.specs.Kept.{Span}
 use Rattle.hs_cluster.specs.Running.{Running}
-use Rattle.hs_cluster.specs.RunsOn.{RunsOn}
+use Rattle.hs_cluster.specs.RunsOn.{RunsOn, StandUntold}
 use Rattle.hs_core_words.specs.State.{Core}
 use Rattle.hs_events.specs.Due.{Events}
 use Rattle.hs_events.specs.Found.{first_core}
@@ -21,7 +22,6 @@ use Rattle.hs_ports.specs.Objects.{KeepsTime, Objects}
 use Rattle.hs_ports.specs.Putting.{IsPut, PutsFront}
 use Rattle.hs_ports.specs.Sink.{bytes_of, followed}
 use Rattle.hs_ports.specs.Source.{before}
-use Rattle.hs_promise.specs.Calm.{PassesCalmly}
 use Rattle.hs_promise.specs.declared.status.Status.{Status}
 use Rattle.hs_promise.specs.declared.status.Status.TheVariants as status
 use Rattle.hs_promise.specs.Ending.{Ending, ending_of}
@@ -45,13 +45,13 @@ use Rattle.hs_run.specs.OneLine.{IsOpeningPut, Printing, RunsCommand, Stretch}
 use Rattle.hs_run.specs.Puts.{Puts}
 use Rattle.hs_run.specs.Served.{HasCauses, PrintsText}
 use Rattle.hs_run.specs.Stopping.{IsPutStop, end_of, status_of}
-use Rattle.hs_run.proofs.DisksLemmas.{calm_is, failed_by, lost_by, paid_by}
+use Rattle.hs_run.proofs.DisksLemmas.{failed_by, lost_by, paid_by, stands_as}
 use Rattle.hs_run.proofs.EndsLemmas.{IsWithin, end_within}
 use Rattle.hs_run.proofs.FoundLemmas.{has_found}
 use Rattle.hs_run.proofs.OpeningLemmas.{opening_printed, opening_so_far}
 use Rattle.hs_run.proofs.PassedLemmas.{answered_more, put_so_far, put_whole}
 use Rattle.hs_run.proofs.ReadLemmas.{read_untold}
-use Rattle.hs_run.proofs.ShownLemmas.{later_shown, within_shown}
+use Rattle.hs_run.proofs.ShownLemmas.{later_shown, within_shown, within_untold}
 use Rattle.hs_run.proofs.WentLemmas.{IsPlain, went_between, went_unopened, went_within}
 use Rattle.hs_run.proofs.WrittenLemmas.{first_going, longer, none_some, put_failed, snoc_is, snoc_some, write_stop}
 
@@ -97,17 +97,21 @@ between_write (Err stop.NoMemory) line h is = cc
 between_write (Err stop.OpsFull) line h is = h
 between_write (Err stop.InputFull) line h is = cc
 
--- nor was its last line gone past, where a run ended within it
-within_past : (result : Result ⊤ Stop) (line : ℕ) → IsWithin result → (ending_of (status_of result line)).past ≡ true → ⊥
-within_past (Ok x) line h past = h
-within_past (Err (stop.WrongShape peer found)) line h past = h
-within_past (Err (stop.ShardLost shard)) line h past = true≢false (sym past)
-within_past (Err stop.BadLine) line h past = h
-within_past (Err stop.ReadFault) line h past = h
-within_past (Err stop.WriteFault) line h past = true≢false (sym past)
-within_past (Err stop.NoMemory) line h past = true≢false (sym past)
-within_past (Err stop.OpsFull) line h past = true≢false (sym past)
-within_past (Err stop.InputFull) line h past = h
+-- where all was put memory did not run out
+told_out : (did : Result ⊤ ClusterFault) (put : Result ⊤ Stop) (line : ℕ) → IfErr put IsPutStop → (ending_of (status_of (end_of did put) line)).short ≡ false → ran_out did ≡ false
+told_out (Ok x) put line only whole = refl
+told_out (Err (cluster.WrongShape peer found)) put line only whole = refl
+told_out (Err (cluster.ShardLost shard)) put line only whole = refl
+told_out (Err cluster.OpsFull) put line only whole = refl
+told_out (Err cluster.NoMemory) (Ok x) line only whole = absurd (true≢false whole)
+told_out (Err cluster.NoMemory) (Err (stop.WrongShape peer found)) line only whole = absurd only
+told_out (Err cluster.NoMemory) (Err (stop.ShardLost shard)) line only whole = absurd only
+told_out (Err cluster.NoMemory) (Err stop.BadLine) line only whole = absurd only
+told_out (Err cluster.NoMemory) (Err stop.ReadFault) line only whole = absurd only
+told_out (Err cluster.NoMemory) (Err stop.WriteFault) line only whole = absurd (true≢false whole)
+told_out (Err cluster.NoMemory) (Err stop.NoMemory) line only whole = absurd (true≢false whole)
+told_out (Err cluster.NoMemory) (Err stop.OpsFull) line only whole = absurd only
+told_out (Err cluster.NoMemory) (Err stop.InputFull) line only whole = absurd only
 
 within_of : (tells : Type 0) (name : List ℕ → Address) (asked : Command) (part : Stretch) → is_ok part.result ≡ false → RunsCommand tells name asked part → IsWithin part.result
 within_of tells name asked part cut runs = subst (λ (r : Result ⊤ Stop). IsWithin r) (sym runs.ended)
@@ -127,7 +131,6 @@ pub record IsOfStory (tells : Type 0) (S : Script) (r : Ran) : Type 0 where
   pub runs : RunsOnDisks tells S r story
   pub rests : (ending_of r.ending).past ≡ true → MayGoOn tells S r story
   pub ended : HasItsEnd S r story
-  pub calm : PassesCalmly S r
   pub nobody : S.commands 0 ≡ None
 
 module _ (tells : Type 0) (name : List ℕ → Address) (did : Result ⊤ ClusterFault) (b : Begun) (part : Stretch) (new : Objects) (named : b.set.name ≡ name) (opened : IsOpened tells b did part.old)
@@ -142,9 +145,10 @@ module _ (tells : Type 0) (name : List ℕ → Address) (did : Result ⊤ Cluste
 
   -- what its disks show, from what they showed by its last events
   on_disks : (commands : ℕ → Option Command) (ending : Status) (line : ℕ) (cluster : Option Running) (lines : List Events) (last : Running) → (tells → Since (stands_of part.new.disks))
+      → ((ending_of ending).short ≡ false → StandUntold b.set b.found (all_events (story_of b lines)) b.disks part.new.disks)
       → RunsOn tells b.set (whole_span last) b.found (all_events (story_of b lines))
       → RunsOnDisks tells (script_by b commands) (ran_at ending line cluster b.old new) (story_of b lines)
-  on_disks commands ending line cluster lines last since shown = record {
+  on_disks commands ending line cluster lines last since untold shown = record {
     span = whole_span last;
     before = refl;
     now = now;
@@ -154,6 +158,7 @@ module _ (tells : Type 0) (name : List ℕ → Address) (did : Result ⊤ Cluste
     shown = shown;
     lost = lost_by tells b.set (whole_span last) b.found (all_events (story_of b lines)) b.old new was is shown;
     failed = failed_by tells b.set (whole_span last) b.found (all_events (story_of b lines)) b.old new was is shown;
+    untold = λ whole. stands_as b.set (whole_span last) b.found (all_events (story_of b lines)) b.old new was is (untold whole);
   }
 
   pub story_run : HasRun tells name did b b.old.left new.left part → (commands : ℕ → Option Command) × IsOfStory tells (script_by b commands) (ran_at (status_of part.result part.new.line) part.new.line (Some part.new.cluster) b.old new)
@@ -171,7 +176,11 @@ module _ (tells : Type 0) (name : List ℕ → Address) (did : Result ⊤ Cluste
               (went_unopened tells b did part.old part.result part.new.line new (record { before = part.old.now; now = part.new.now; old = part.old.got; new = part.new.got }) (chosen b.old.left []) opened (let there = now in omega (arith, later, there)) zero cut put
               (found (chosen b.old.left []) (status_of part.result part.new.line) part.new.line (Some part.old.cluster) [] part.old.cluster shown)
               (paid_by tells b.set (whole_span part.old.cluster) b.found (all_events (story_of b [])) b.old new was is shown));
-          runs = on_disks (chosen b.old.left []) (status_of part.result part.new.line) part.new.line (Some part.new.cluster) [] part.old.cluster (λ told. subst (λ (d : List DiskSeen). Since (stands_of d)) (sym left) (opened.since told)) shown;
+          runs = on_disks (chosen b.old.left []) (status_of part.result part.new.line) part.new.line (Some part.new.cluster) [] part.old.cluster (λ told. subst (λ (d : List DiskSeen). Since (stands_of d)) (sym left) (opened.since told))
+              (λ whole. subst (λ (es : Events). StandUntold b.set b.found es b.disks part.new.disks) (sym (append-nil b.opening))
+              (subst (λ (d : List DiskSeen). StandUntold b.set b.found b.opening b.disks d) (sym left)
+              (opened.untold (told_out did put.put part.new.line put.only (ap (λ (r : Result ⊤ Stop). (ending_of (status_of r part.new.line)).short) (sym put.ended) ∙ whole)))))
+              shown;
           rests = λ past. absurd (within_past part.result part.new.line
               (opening_within did part.old.cluster (record { before = part.old.now; now = part.new.now; old = part.old.got; new = part.new.got }) part.result opened.outcome cut put) past);
           ended = record {
@@ -181,8 +190,6 @@ module _ (tells : Type 0) (name : List ℕ → Address) (did : Result ⊤ Cluste
                 subst (λ (c : Running). 0 < length c.core.journal) (sym same) (longer 0 part.old.cluster.core.journal (put.some failed));
             unread = λ some. unread;
           };
-          calm = λ one past. absurd (within_past part.result part.new.line
-              (opening_within did part.old.cluster (record { before = part.old.now; now = part.new.now; old = part.old.got; new = part.new.got }) part.result opened.outcome cut put) past);
           nobody = chosen_first b.old.left [];
         },
       )
@@ -194,14 +201,13 @@ module _ (tells : Type 0) (name : List ℕ → Address) (did : Result ⊤ Cluste
       went = went_between b so_far.read so_far.lines part.new (status_of part.result part.new.line) new (chosen b.old.left so_far.read) now got so_far.gone (chosen_read b.old.left so_far.read so_far.said)
           (found (chosen b.old.left so_far.read) (status_of part.result part.new.line) part.new.line (Some part.new.cluster) so_far.lines part.new.cluster so_far.shows.shown) (plain_between part.result part.new.line stops)
           (paid_by tells b.set (span_to b part.new) b.found (all_events (story_of b so_far.lines)) b.old new was is so_far.shows.shown);
-      runs = on_disks (chosen b.old.left so_far.read) (status_of part.result part.new.line) part.new.line (Some part.new.cluster) so_far.lines part.new.cluster so_far.shows.since so_far.shows.shown;
+      runs = on_disks (chosen b.old.left so_far.read) (status_of part.result part.new.line) part.new.line (Some part.new.cluster) so_far.lines part.new.cluster so_far.shows.since (λ whole. so_far.shows.may.untold) so_far.shows.shown;
       rests = λ past. record { span = span_to b part.new; before = refl; old = was; new = is; going = ap (λ (c : Core). c.ended) (sym so_far.gone.behind.core) ∙ so_far.gone.going; may = so_far.shows.may; among = among };
       ended = record {
         written = λ is. absurd (between_write part.result part.new.line stops is);
         answered = λ is. absurd (between_write part.result part.new.line stops is);
         unread = λ some. absurd (none_some (first_core b.set b.found).ended (first_going (first_core b.set b.found) (all_events (story_of b so_far.lines)) (ap (λ (c : Core). c.ended) (sym so_far.gone.behind.core) ∙ so_far.gone.going)) some);
       };
-      calm = λ one past. calm_is b.old new b.disks part.new.disks was is (so_far.shows.may.calm one).none;
       nobody = chosen_first b.old.left so_far.read;
     },
   )
@@ -215,7 +221,10 @@ module _ (tells : Type 0) (name : List ℕ → Address) (did : Result ⊤ Cluste
               new (chosen b.old.left (read ++ line ∷ [])) now got (chosen_read b.old.left (read ++ line ∷ []) said)
               (found (chosen b.old.left (read ++ line ∷ [])) (status_of part.result part.new.line) part.new.line (Some part.new.cluster) (lines ++ runs.runs.events ∷ []) part.new.cluster shown)
               (paid_by tells b.set (span_to b part.new) b.found (all_events (story_of b (lines ++ runs.runs.events ∷ []))) b.old new was is shown);
-          runs = on_disks (chosen b.old.left (read ++ line ∷ [])) (status_of part.result part.new.line) part.new.line (Some part.new.cluster) (lines ++ runs.runs.events ∷ []) part.new.cluster runs.since shown;
+          runs = on_disks (chosen b.old.left (read ++ line ∷ [])) (status_of part.result part.new.line) part.new.line (Some part.new.cluster) (lines ++ runs.runs.events ∷ []) part.new.cluster runs.since
+              (λ whole. within_untold tells name b read lines at part.new asked part.result gone runs shows
+              (told_out runs.did runs.put part.new.line runs.only (ap (λ (r : Result ⊤ Stop). (ending_of (status_of r part.new.line)).short) (sym runs.ended) ∙ whole)))
+              shown;
           rests = λ past. absurd (within_past part.result part.new.line (within_of tells name asked (record { old = at; new = part.new; result = part.result }) cut runs) past);
           ended = record {
             written = λ is front es there.
@@ -226,7 +235,6 @@ module _ (tells : Type 0) (name : List ℕ → Address) (did : Result ⊤ Cluste
             answered = λ is none. absurd (snoc_some lines runs.runs.events (sym none));
             unread = λ some. absurd (none_some (first_core b.set b.found).ended (first_going (first_core b.set b.found) (all_events (story_of b lines)) (ap (λ (c : Core). c.ended) (sym gone.behind.core) ∙ gone.going)) some);
           };
-          calm = λ one past. absurd (within_past part.result part.new.line (within_of tells name asked (record { old = at; new = part.new; result = part.result }) cut runs) past);
           nobody = chosen_first b.old.left (read ++ line ∷ []);
         },
       )

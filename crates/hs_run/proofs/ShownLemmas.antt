@@ -1,14 +1,15 @@
 -- What the disks show, behind one line more, and as the watch goes on.
-use Rattle.std.proofs.Common.{◌≡◌, ◌∙◌, ap, sym, subst, ℕ, ◌≤◌, true, List, [], ◌∷◌, ◌++◌, Result}
+use Rattle.std.proofs.Common.{◌≡◌, ◌∙◌, ap, sym, subst, ℕ, ◌≤◌, false, true, List, [], ◌∷◌, ◌++◌, Result}
 use Rattle.std.proofs.lemmas.List.{append-nil}
 use Rattle.std.specs.Prelude.{is_ok, ⊤}
-use Rattle.hs_cluster.proofs.RunLemmas.{can_later, can_more, can_opened, opening_span, runs_later, runs_more}
+use Rattle.hs_cluster.proofs.RunLemmas.{can_later, can_more, can_opened, opening_span, runs_later, runs_more, untold_more}
 use Rattle.hs_cluster.proofs.WalkLemmas.{rise_then}
+use Rattle.hs_cluster.specs.Calls.{ran_out}
 use Rattle.hs_cluster.specs.declared.fault.ClusterFault.{ClusterFault}
 use Rattle.hs_cluster.specs.Disks.{stands_of}
 use Rattle.hs_cluster.specs.Opens.{Opens}
 use Rattle.hs_cluster.specs.Running.{Running}
-use Rattle.hs_cluster.specs.RunsOn.{CanRunOn, RunsOn}
+use Rattle.hs_cluster.specs.RunsOn.{CanRunOn, RunsOn, StandUntold}
 use Rattle.hs_events.specs.Due.{Events, MomentsRise}
 use Rattle.hs_fold.specs.Shards.Setting.{Setting}
 use Rattle.hs_limits.specs.declared.address.Address.{Address}
@@ -69,6 +70,11 @@ module _ (tells : Type 0) (name : List ℕ → Address) (b : Begun) (read : List
       (later_shown tells b done_at more new.now runs.puts.late.later rises runs.since
       (runs_more tells b.set b.found b.old.moment at.now runs.mid b.first at.cluster new.cluster b.disks at.disks new.disks runs.did (all_events (story_of b lines)) runs.runs.events
       shows.shown shows.may gone.behind.core gone.going gone.behind.rises runs.runs.rises runs.runs.does.rooms runs.runs.kept))
+
+  pub within_untold : ran_out runs.did ≡ false → StandUntold b.set b.found (all_events (story_of b (lines ++ runs.runs.events ∷ []))) b.disks new.disks
+  within_untold out = subst (λ (es : Events). StandUntold b.set b.found es b.disks new.disks) (sym same)
+      (untold_more tells b.set b.found b.old.moment at.now runs.mid b.first at.cluster new.cluster b.disks at.disks new.disks runs.did (all_events (story_of b lines)) runs.runs.events
+      shows.shown shows.may gone.behind.core gone.going gone.behind.rises runs.runs.rises runs.runs.does.rooms runs.runs.kept out)
 
   can_then : is_ok runs.did ≡ true → CanRunOn tells b.set (span_to b done_at) b.found more
   can_then fine = on_fine (CanRunOn tells b.set (span_to b done_at) b.found more) runs.did fine

@@ -1,7 +1,9 @@
 -- A run right behind its opening.
-use Rattle.std.proofs.Common.{◌≡◌, ◌∙◌, ap, sym, subst, ℕ, ◌≤◌, Bool, true, List, [], ◌++◌, Option, Result, refl, arith, not}
+use Rattle.std.proofs.Common.{◌≡◌, ◌∙◌, inl, inr, ap, sym, subst, ℕ, ◌≤◌, Bool, true, List, [], ◌++◌, Option, Some, Result, refl, arith, not}
 use Rattle.std.proofs.lemmas.List.{append-nil}
 use Rattle.std.specs.Prelude.{is_ok, ⊤}
+use Rattle.hs_cache.specs.Cached.{Cached, cached}
+use Rattle.hs_cluster.proofs.RunLemmas.{can_cache, runs_beside}
 use Rattle.hs_cluster.specs.declared.fault.ClusterFault.{ClusterFault}
 use Rattle.hs_cluster.specs.Disks.{DiskSeen, stands_of}
 use Rattle.hs_cluster.specs.Running.{Running}
@@ -15,7 +17,7 @@ use Rattle.hs_moments.specs.Moments.{Since}
 use Rattle.hs_promise.specs.Story.{all_events}
 use Rattle.hs_script.specs.Text.{text}
 use Rattle.hs_run.specs.declared.stop.Stop.{Stop}
-use Rattle.hs_run.specs.Between.{IsReadyAt, Point}
+use Rattle.hs_run.specs.Between.{IsCached, IsReadyAt, Point}
 use Rattle.hs_run.specs.Going.{Begun, HasAnswered, HasGone, HasShown, IsBehind, IsOpened, IsPrinted, span_to, story_of}
 use Rattle.hs_run.specs.OneLine.{IsOpeningPut, Printing}
 use Rattle.hs_run.specs.Puts.{Puts}
@@ -75,6 +77,53 @@ module _ (tells : Type 0) (b : Begun) (did : Result ⊤ ClusterFault) (at mid : 
             (later_can tells b at b.opening mid.now put.puts.late.later (h.may well.whole))));
         since = λ told. subst (λ (d : List DiskSeen). Since (stands_of d)) (sym left) (h.since told);
       }
+
+-- ---- with an empty cache
+
+pub gone_cached : (b : Begun) (mid : Point) (cluster : Running) → IsCached mid.cluster cluster → HasGone b [] [] mid → HasGone b [] [] (record mid { cluster = cluster })
+gone_cached b mid cluster is h = elim is [
+  | inl same ↦ subst (λ (c : Running). HasGone b [] [] (record mid { cluster = c })) (sym same) h
+  | inr new ↦ subst (λ (c : Running). HasGone b [] [] (record mid { cluster = c })) (sym new.1) (record {
+    behind = record {
+      later = h.behind.later;
+      opening = h.behind.opening;
+      core = h.behind.core;
+      course = h.behind.course;
+      rises = h.behind.rises;
+      answered = h.behind.answered;
+    };
+    going = h.going;
+    line = h.line;
+    each = h.each;
+    gone = h.gone;
+    printed = h.printed;
+  })
+]
+
+pub shown_cached : (tells : Type 0) (b : Begun) (mid : Point) (cluster : Running) → IsCached mid.cluster cluster → HasShown tells b [] mid → HasShown tells b [] (record mid { cluster = cluster })
+shown_cached tells b mid cluster is h = elim is [
+  | inl same ↦ subst (λ (c : Running). HasShown tells b [] (record mid { cluster = c })) (sym same) h
+  | inr new ↦
+      let cache : Option Cached = Some (cached [] new.0) in
+      let other : Running = record mid.cluster { cache = cache } in
+      subst (λ (c : Running). HasShown tells b [] (record mid { cluster = c })) (sym new.1) (record {
+        shown = runs_beside tells b.set b.found b.old.moment mid.now b.first mid.cluster other b.disks mid.disks (all_events (story_of b [])) h.shown;
+        may = can_cache tells b.set b.found b.old.moment mid.now b.first mid.cluster cache b.disks mid.disks (all_events (story_of b [])) refl h.may;
+        since = h.since;
+      })
+]
+
+pub ready_cached : (tells : Type 0) (mid : Point) (cluster : Running) → IsCached mid.cluster cluster → IsReadyAt tells mid → IsReadyAt tells (record mid { cluster = cluster })
+ready_cached tells mid cluster is h = elim is [
+  | inl same ↦ subst (λ (c : Running). IsReadyAt tells (record mid { cluster = c })) (sym same) h
+  | inr new ↦ subst (λ (c : Running). IsReadyAt tells (record mid { cluster = c })) (sym new.1) (record { going = h.going; last = h.last; moment = h.moment; count = h.count; ready = h.ready })
+]
+
+pub core_cached : (old new : Running) → IsCached old new → new.core ≡ old.core
+core_cached old new is = elim is [
+  | inl same ↦ ap (λ (c : Running). c.core) same
+  | inr cache ↦ ap (λ (c : Running). c.core) cache.1
+]
 
 -- as ready as before, with what was put since
 pub ready_on : (tells : Type 0) (at mid : Point) → mid.cluster ≡ at.cluster → mid.disks ≡ at.disks → mid.line ≡ at.line → at.now ≤ mid.now → IsReadyAt tells at → IsReadyAt tells mid

@@ -145,7 +145,7 @@ module _ (tells : Type 0) (set : Setting) (span : Span) (running : Running) (did
           no_load = record { kept = refl; stored = refl };
           causes = causes_run part.result part.new.line part.new.cluster old new cause no_shape;
           within = λ peer found is. absurd (no_shape peer found is);
-          calm = record { past = m.calm; other = λ peer found is. absurd (no_shape peer found is) };
+          others = λ peer found is. absurd (no_shape peer found is);
           left = left_told old.left new.left part.result part.new.line ends;
           ends = if_told (λ told. EndsBy told new.left part.result part.new.line) (λ told. IfSome new.left (Ends (ran_at (status_of part.result part.new.line) part.new.line (Some part.new.cluster) old new) told)) old.left ends
               (λ told h. ends_run part.result part.new.line (Some part.new.cluster) old new told h);

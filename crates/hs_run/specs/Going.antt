@@ -5,7 +5,7 @@ use Rattle.hs_cluster.specs.declared.fault.ClusterFault.{ClusterFault}
 use Rattle.hs_cluster.specs.Disks.{DiskSeen, stands_of}
 use Rattle.hs_cluster.specs.Kept.{Span}
 use Rattle.hs_cluster.specs.Running.{Running}
-use Rattle.hs_cluster.specs.RunsOn.{CanRunOn, RunsOn}
+use Rattle.hs_cluster.specs.RunsOn.{CanRunOn, RunsOn, StandUntold}
 use Rattle.hs_core_words.specs.State.{Core}
 use Rattle.hs_events.specs.Beginning.{first_items}
 use Rattle.hs_events.specs.Commands.{LineAt}
@@ -181,6 +181,7 @@ pub record IsOpened (tells : Type 0) (b : Begun) (did : Result ⊤ ClusterFault)
   pub answered : HasAnswered b.set.limits.ops (steps (first_core b.set b.found) b.opening) at.now
   pub shown : RunsOn tells b.set (span_to b at) b.found b.opening
   pub may : is_ok did ≡ true → CanRunOn tells b.set (span_to b at) b.found b.opening
+  pub untold : ran_out did ≡ false → StandUntold b.set b.found b.opening b.disks at.disks
   pub since : tells → Since (stands_of at.disks)
 
 -- opening was not told whole, or did not come to its end: nothing was read, and this is left; or the script was run behind it

@@ -1,11 +1,12 @@
 -- What is shown of a run on a cluster: that it is the machine's, and what its disks show.
-use Rattle.std.specs.Prelude.{IfSome, IsSome, List, None, Option, [], length, map, true, ℕ, ◌++◌, ◌+◌, ◌<◌, ◌∷◌, ◌≡◌}
+use Rattle.std.specs.Prelude.{IfSome, IsSome, List, None, Option, [], false, length, map, true, ℕ, ◌++◌, ◌+◌, ◌<◌, ◌∷◌, ◌≡◌}
+use Rattle.hs_cluster.specs.Counts.{AreAllCounted}
 use Rattle.hs_cluster.specs.Disks.{DiskSeen, stands_of}
-use Rattle.hs_cluster.specs.Kept.{AreStored, Span}
+use Rattle.hs_cluster.specs.Kept.{Span}
 use Rattle.hs_cluster.specs.RunsOn.{CanRunOn, RunsOn}
 use Rattle.hs_cluster.specs.Unopened.{LeavesAsTaken}
 use Rattle.hs_events.specs.Due.{Events}
-use Rattle.hs_events.specs.Found.{first_core}
+use Rattle.hs_events.specs.Found.{first_core, starts_good}
 use Rattle.hs_events.specs.Reports.{failures}
 use Rattle.hs_events.specs.Taken.{peer_count}
 use Rattle.hs_events.specs.Whole.{open_whole}
@@ -15,7 +16,7 @@ use Rattle.hs_moments.specs.Moments.{Since}
 use Rattle.hs_ports.specs.declared.disk.Side.{Side}
 use Rattle.hs_ports.specs.Disk.{IsImage, Standing}
 use Rattle.hs_ports.specs.Moments.{disk_at}
-use Rattle.hs_ports.specs.Objects.{Objects}
+use Rattle.hs_ports.specs.Objects.{Objects, faults_at}
 use Rattle.hs_promise.specs.declared.status.Status.TheVariants as status
 use Rattle.hs_promise.specs.Ending.{ending_of}
 use Rattle.hs_promise.specs.Found.{IsReadAs}
@@ -42,10 +43,13 @@ pub record RunsOnDisks (tells : Type 0) (S : Script) (r : Ran) (story : Story) :
   pub new : AreHanded r.new span.left
   pub since : tells → Since r.new.disks
   pub shown : RunsOn tells S.set span story.found (all_events story)
-  -- each count rose by the losses before the core was opened; and, with one copy a shard, by all failures too, where what a peer is to read stands in its list
+  -- each count rose by the losses before the core was opened; and by all failures too, where those of the events are at the counts, as they are where what a peer is to read stands in its list
   pub lost : tells → (disk : ℕ) → DiskRose r (loss_count story disk) disk
-  pub failed : S.set.shape.copies ≡ 1 → tells → (first_core S.set story.found).ended ≡ None → AreStored (open_whole S.set story.found) (all_events story)
+  pub failed : tells → AreAllCounted (first_core S.set story.found) (all_events story) shown.disks span.left
       → (disk : ℕ) → DiskRose r (failures true disk (first_core S.set story.found) (all_events story) + loss_count story disk) disk
+  -- and where all that was answered was put, that of a disk stands whose peer was good as the core was opened, and of which no failure is reported
+  pub untold : (ending_of r.ending).short ≡ false → (disk : ℕ) → starts_good story.found disk ≡ true → failures true disk (first_core S.set story.found) (all_events story) ≡ 0
+      → faults_at r.new.disk_faults disk ≡ faults_at r.old.disk_faults disk
 
 -- where they tell their contents, a peer's log is that of its disk, or its disk failed; and, with one copy a shard, what was read is told
 pub record HasReadDisks (S : Script) (r : Ran) (story : Story) : Type 0 where

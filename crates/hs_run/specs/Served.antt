@@ -6,7 +6,7 @@ use Rattle.hs_ports.specs.Objects.{CountsStand, IsDuring, IsSinkBehind, KeepsPas
 use Rattle.hs_ports.specs.Putting.{IsPut, PutsFront, got_by}
 use Rattle.hs_ports.specs.Sink.{bytes_of}
 use Rattle.hs_journal.specs.Moments.{below}
-use Rattle.hs_promise.specs.Calm.{EndsCalm}
+use Rattle.hs_promise.specs.Calm.{OthersStand}
 use Rattle.hs_promise.specs.declared.status.Status.TheVariants as status
 use Rattle.hs_promise.specs.Ending.{ending_of}
 use Rattle.hs_promise.specs.Ends.{Ends}
@@ -45,7 +45,7 @@ pub record Served (tells : Type 0) (S : Script) (r : Ran) : Type 0 where
   pub causes : HasCauses r
   -- a disk of another store is that of a peer
   pub within : (peer : ℕ) (found : Header) → r.ending ≡ status.WrongShape peer found → peer < peer_count S.set.shape
-  pub calm : EndsCalm S r
+  pub others : OthersStand r
   -- a source that tells what it has tells what it has left
   pub left : IsSome r.old.left → IsSome r.new.left
   pub ends : IfSome r.old.left (λ script. IfSome r.new.left (Ends r script))

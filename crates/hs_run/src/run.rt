@@ -1,8 +1,8 @@
 //! A run of a script over its cluster, and what one line does to it.
-ghost use Rattle.std.specs.Prelude.{◌≡◌, ◌+◌, ◌<◌, ◌^◌, ◌≤◌, drop, length, map, true, Err, IfErr, OnOk};
+ghost use Rattle.std.specs.Prelude.{◌≡◌, ◌+◌, ◌<◌, ◌^◌, ◌≤◌, drop, length, map, true, Err, IfErr, OnErr, OnOk};
 ghost use Rattle.hs_cluster.specs.Disks.{seen_as};
 ghost use Rattle.hs_events.specs.Commands.{is_served};
-ghost use Rattle.hs_run.specs.Between.{IsReadyAt};
+ghost use Rattle.hs_run.specs.Between.{IsCached, IsReadyAt};
 ghost use Rattle.hs_run.specs.Faults.{SinkCause};
 ghost use Rattle.hs_run.specs.OneLine.{DoesLine, IsOpeningPut, RunsCommand};
 ghost use Rattle.hs_run.specs.Puts.{Puts};
@@ -71,6 +71,23 @@ impl Run {
             printed: 0,
             line: 0,
             bytes: Vec::new(alloc),
+        }
+    }
+
+    /// Has at most so many blocks cached that are read from now on; 0 asks for no cache.
+    pub(crate) fn use_cache(&mut self, limit: u32) -> Result<(), Stop>
+        ensures cached { OnOk result (IsCached self.old.cluster self.new.cluster) }
+        ensures same { OnErr result (self.new.cluster ≡ self.old.cluster) }
+        ensures printed { self.new.printed ≡ self.old.printed }
+        ensures line { self.new.line ≡ self.old.line }
+        ensures only { IfErr result (λ stop. stop ≡ Stop.NoMemory) }
+    {
+        if limit == 0 {
+            return Ok(());
+        }
+        match self.cluster.use_cache(limit) {
+            Ok(()) => Ok(()),
+            Err(_) => Err(Stop::NoMemory),
         }
     }
 

@@ -26,10 +26,12 @@ use std::alloc::Global;
 /// How many bytes a script may have.
 const INPUT_MOST: u64 = 4_294_967_296;
 
-/// Prints what opening has answered, and then runs the script, where opening came to its end.
+/// Prints what opening has answered, and then runs the script, where opening came to its end. At most
+/// so many blocks are cached; where there is no memory for it nothing of the script is read.
 fn go<A: Addresser, S: Source, K: Sink, D: Disk>(
     run: &mut Run,
     did: Result<(), ClusterFault>,
+    cached: u32,
     naming: &A,
     source: &mut S,
     disks: &mut [D],
@@ -80,16 +82,22 @@ fn go<A: Addresser, S: Source, K: Sink, D: Disk>(
         Ok(()) => {}
         Err(stop) => return Err(stop),
     }
+    match run.use_cache(cached) {
+        Ok(()) => {}
+        Err(stop) => return Err(stop),
+    }
     let mut reader = Reader::new(run.alloc, INPUT_MOST);
     serve(run, &mut reader, naming, source, disks, sink, watch)
 }
 
 /// Runs the script that the source has on the disks of a store, one disk for each peer, and puts what
-/// is answered into the sink.
+/// is answered into the sink. At most `cached` blocks that were read lately are kept; 0 asks for none.
+/// Whatever it is, the same is promised.
 pub fn run_script_on<A: Addresser, S: Source, K: Sink, D: Disk>(
     alloc: Global,
     shape: Shape,
     limits: Limits,
+    cached: u32,
     naming: &A,
     source: &mut S,
     sink: &mut K,
@@ -120,7 +128,7 @@ pub fn run_script_on<A: Addresser, S: Source, K: Sink, D: Disk>(
     };
     let Opened { cluster, done } = opened;
     let mut run = Run::new(alloc, cluster);
-    let ended = go(&mut run, done, naming, source, disks, sink, watch);
+    let ended = go(&mut run, done, cached, naming, source, disks, sink, watch);
     let Run {
         alloc: _,
         cluster,

@@ -196,7 +196,7 @@ module _ (S : Script) (r : Ran) (story : Story) (went : Went S r story) (peer : 
 
   -- ---- behind opening there are as many notes as failures
 
-  counted : note_count peer (told_of (last_core S story)) ≡ note_count peer (told_of opened) + failures true peer opened (all_of story)
+  pub counted : note_count peer (told_of (last_core S story)) ≡ note_count peer (told_of opened) + failures true peer opened (all_of story)
   counted =
       let es : Events = story.opening ++ all_events story.lines in
       let all : note_count peer (told_of (after_all opened es)) ≡ note_count peer (told_of opened) + failures true peer opened es =

@@ -98,14 +98,6 @@ keyed_from test S low n e is above =
     ∙ ap (λ (b : Bool). option_map_or (λ k. nat_le low k) (cond b (Some n) None) false) is.passes
     ∙ grind (arith, tests, above)
 
--- lines are numbered from 1
-line_next : (lines : List (List ℕ)) (n k : ℕ) → n ≡ suc k → line_at lines n ≡ slice_get lines k
-line_next lines n k is = go (n == 0) refl
-  where
-    go : (b : Bool) → (n == 0) ≡ b → cond b None (slice_get lines (n - 1)) ≡ slice_get lines k
-    go true e = absurd (grind (arith, tests, e, is))
-    go false e = ap (λ m. slice_get lines m) (omega (arith, is))
-
 zero_below : (k : ℕ) → nat_le 0 k ≡ true
 zero_below k = grind (arith, tests)
 
@@ -154,39 +146,6 @@ module _ (S : Script) {X : Type 0} (lines : List X) (entries : List JournalEntry
       → ((i : ℕ) (line : X) → slice_get lines i ≡ Some line → test (client_op (S.commands (1 + i))) ≡ true → passes line ≡ true)
       → many (is_of_line test S) entries ≤ count_by passes lines
   lines_most test passes marks = lines_by test passes (λ i line at j of is. marks i line at is)
-
-module _ (S : Script) (lines : List (List ℕ)) (says : (n : ℕ) → S.commands n ≡ commands_of lines n) (entries : List JournalEntry)
-    (named : (i n : ℕ) → IsOfLine entries i n → IsSome (S.commands n)) (once : (i j n : ℕ) → IsOfLine entries i n → IsOfLine entries j n → i ≡ j) where
-  -- a line that has a command is one of the script
-  within : (n : ℕ) → IsSome (S.commands n) → (1 ≤ n) × (n < 1 + length lines)
-  within n some = go n (subst (λ (c : Option Command). IsSome c) (says n) some)
-    where
-      at : (k : ℕ) (o : Option (List ℕ)) → slice_get lines k ≡ o → IsSome (command_at o) → k < length lines
-      at k None is f = absurd (cc f)
-      at k (Some line) is f = slice_get_within lines k line is
-
-      go : (k : ℕ) → IsSome (commands_of lines k) → (1 ≤ k) × (k < 1 + length lines)
-      go zero f = absurd (cc f)
-      go (suc k) f = (omega arith, omega (arith, at k (slice_get lines k) refl (subst (λ (o : Option (List ℕ)). IsSome (command_at o)) (line_next lines (suc k) k refl) f)))
-
-  each_within : (i n : ℕ) → IsOfLine entries i n → (1 ≤ n) × (n < 1 + length lines)
-  each_within i n of = within n (named i n of)
-
-  pub all_lines : many (is_of_line (λ o. true) S) entries ≤ length lines
-  all_lines =
-      let most : many (is_of_line (λ o. true) S) entries ≤ count_by (λ (line : List ℕ). true) lines = lines_most S lines entries each_within once (λ o. true) (λ line. true) (λ i line at is. refl) in
-      let counted : many (λ (line : List ℕ). true) lines ≡ count_by (λ (line : List ℕ). true) lines = many-counted (λ line. true) lines in
-      let whole : many (λ (line : List ℕ). true) lines ≡ length lines = many-all lines in
-      omega (arith, most, counted, whole)
-
-  deletion_deletes : (c : Option Command) → is_deletion (client_op c) ≡ true → deletes c ≡ true
-  deletion_deletes (Some (command.Client op.Delete)) e = refl
-  deletion_deletes (Some (command.Client other)) e = e
-  deletion_deletes other e = cc e
-
-  pub all_deletes : many (is_delete S) entries ≤ delete_count lines
-  all_deletes = lines_most S lines entries each_within once is_deletion (λ line. bytes_eq line (codes "delete")) (λ i line at is.
-      line_says_delete line (sym (ap (λ (o : Option (List ℕ)). deletes (command_at o)) (line_next lines (1 + i) i (omega arith) ∙ at)) ∙ sym (ap (λ (c : Option Command). deletes c) (says (1 + i))) ∙ deletion_deletes (S.commands (1 + i)) is))
 
 -- ---- notes
 

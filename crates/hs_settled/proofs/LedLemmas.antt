@@ -1,18 +1,15 @@
--- What a run tells, with what found its journal full: shard 0 is led by lines, and deletions are as promised.
+-- What a run tells, with what found its journal full: shard 0 is led by lines.
 use Rattle.std.proofs.Common.{◌≡◌, ◌∙◌, sym, ap, subst, ℕ, Bool, true, false, List, [], ◌∷◌, ◌++◌, Some, append-nil, if◌then◌else◌}
 use Rattle.std.specs.List.{AllByRecursion}
-use Rattle.hs_answered.specs.Telling.{Judging}
 use Rattle.hs_core_words.specs.Changing.{note}
 use Rattle.hs_core_words.specs.Opening.{Taken, open_core}
 use Rattle.hs_core_words.specs.State.{Core}
 use Rattle.hs_core_words.specs.Views.{begin_view}
-use Rattle.hs_settled.proofs.PromiseLemmas.{OpensSo, deletes_of}
 use Rattle.hs_settled.proofs.RuleLemmas.{all_front}
 use Rattle.hs_settled.proofs.DeletesRunLemmas.{steps_ended}
 use Rattle.hs_settled.proofs.SaidLemmas.{noted_told, view_told}
-use Rattle.hs_settled.specs.Deletion.{TellsDeletion}
 use Rattle.hs_desk.specs.declared.fault.CoreFault.{CoreFault}
-use Rattle.hs_settled.specs.Calm.{AreLed, IsNotAlone, whole_of}
+use Rattle.hs_settled.specs.Calm.{AreLed, IsNotAlone}
 use Rattle.hs_events.specs.Found.{first_core, opens_with}
 use Rattle.hs_journal.specs.declared.entry.JournalEntry.{JournalEntry}
 use Rattle.hs_journal.specs.declared.entry.Who.TheVariants as who
@@ -21,22 +18,14 @@ use Rattle.hs_limits.specs.declared.limits.Limits.{Limits}
 use Rattle.hs_limits.specs.declared.shape.Shape.{Shape}
 use Rattle.hs_model.specs.declared.deed.Deed.TheVariants as deed
 use Rattle.hs_model.specs.declared.reply.Reply.TheVariants as reply
-use Rattle.hs_model.specs.Store.{Store}
 use Rattle.hs_settled.proofs.NotingLemmas.{all_append}
-use Rattle.hs_promise.specs.Deletes.{Deletes}
 use Rattle.hs_promise.specs.Ending.{ending_of}
 use Rattle.hs_promise.specs.Machine.{NeverOpened, Went}
 use Rattle.hs_promise.specs.Run.{Ran, Script}
 use Rattle.hs_promise.specs.Story.{Story, all_events, last_core}
 use Rattle.hs_settled.specs.Settled.{IsNoFirst}
 use Rattle.hs_standing.proofs.FirstLemmas.{KeepsFirst, first_held}
-use Rattle.hs_swept.proofs.DoneLemmas.{none_swept}
-use Rattle.hs_swept.specs.Swept.{AreSwept}
 use Rattle.hs_told.specs.InTurn.{told_of}
-
--- by what the journal of a script is judged
-abbrev judging : Script → Judging
-judging S = record { commands = S.commands; name = S.set.name; limits = S.set.limits }
 
 -- where no entry tells that shard 0 entered some epoch by itself, shard 0 is led by lines
 pub led_by : (es : List JournalEntry) → AllByRecursion IsNoFirst es → AreLed es
@@ -85,15 +74,6 @@ module _ (S : Script) (r : Ran) (story : Story) (went : Went S r story) where
   pub led_went : AreLed (told_of (last_core S story)) → AreLed (r.journal ++ r.refused)
   led_went all = subst AreLed (sym same_told) (handed (ending_of r.ending).full (last_core S story).journal (last_core S story).refused all)
 
-  swept_whole : (start : Store) (b : Bool) (journal refused : List JournalEntry) → AreSwept (judging S) start journal → AreSwept (judging S) start (journal ++ refused) → AreSwept (judging S) start (journal ++ (if b then refused else []))
-  swept_whole start true journal refused one all = all
-  swept_whole start false journal refused one all = subst (λ (es : List JournalEntry). AreSwept (judging S) start es) (sym (append-nil journal)) one
-
-  pub deletes_went : (entry : Store) → TellsDeletion (judging S) entry (last_core S story) → Deletes S entry (whole_of r)
-  deletes_went entry told =
-      deletes_of S entry (whole_of r) (subst (λ (es : List JournalEntry). AreSwept (judging S) entry es) (sym same_told)
-      (swept_whole entry (ending_of r.ending).full (last_core S story).journal (last_core S story).refused told.journal told.told))
-
   module _ (fault : CoreFault) (over : (first_core S.set story.found).ended ≡ Some fault) where
     stays : last_core S story ≡ first_core S.set story.found
     stays = steps_ended (first_core S.set story.found) (all_events story) fault over
@@ -101,14 +81,8 @@ module _ (S : Script) (r : Ran) (story : Story) (went : Went S r story) where
     pub led_ended : AreLed (r.journal ++ r.refused)
     led_ended = led_went (subst (λ (c : Core). AreLed (told_of c)) (sym stays) (led_of (first_core S.set story.found) (opened_led S.set.shape S.set.limits (opens_with S.set story.found) story.found.opened)))
 
-    pub deletes_ended : OpensSo → (entry : Store) → Deletes S entry (whole_of r)
-    deletes_ended opens entry = deletes_went entry (subst (λ (c : Core). TellsDeletion (judging S) entry c) (sym stays) (opens (judging S) entry S.set.shape S.set.limits (opens_with S.set story.found) story.found.opened))
-
 nothing_told : (r : Ran) → NeverOpened r → [] ≡ r.journal ++ r.refused
 nothing_told r never = sym (ap (λ (es : List JournalEntry). es ++ r.refused) never.journal ∙ never.refused)
 
 pub led_never : (r : Ran) → NeverOpened r → AreLed (r.journal ++ r.refused)
 led_never r never = subst AreLed (nothing_told r never) tt
-
-pub deletes_never : (S : Script) (entry : Store) (r : Ran) → NeverOpened r → Deletes S entry (whole_of r)
-deletes_never S entry r never = deletes_of S entry (whole_of r) (subst (λ (es : List JournalEntry). AreSwept (judging S) entry es) (nothing_told r never) (none_swept (judging S) entry))

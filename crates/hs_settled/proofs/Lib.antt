@@ -3,6 +3,7 @@ pub mod AnsweredLemmas
 pub mod AsideLemmas
 pub mod AskLemmas
 pub mod BegunLemmas
+pub mod BoundLemmas
 pub mod CalmLemmas
 pub mod CauseLemmas
 pub mod CausesCountLemmas
@@ -55,6 +56,7 @@ pub mod PromiseLemmas
 pub mod PromptLemmas
 pub mod RefusalLemmas
 pub mod ReplyLemmas
+pub mod RisesLemmas
 pub mod RuleLemmas
 pub mod SaidLemmas
 pub mod ScriptLemmas

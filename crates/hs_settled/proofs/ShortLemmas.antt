@@ -1,7 +1,7 @@
 -- How many entries a journal has.
 use Rattle.std.proofs.Common.{◌≡◌, ◌∙◌, ap, subst, true, ℕ, ◌+◌, ◌-◌, ◌*◌, ◌<◌, ◌≤◌, List, length, arith, slice_index}
 use Rattle.std.proofs.lemmas.List.Elements.{recursion_from_All}
-use Rattle.hs_settled.proofs.EndsCountLemmas.{AllAbove, above_at, above_each, many, sum_from, sum_ones, times, times-is, times-more, times-sum, times_le, total, total_least, total_most}
+use Rattle.hs_settled.proofs.EndsCountLemmas.{AllAbove, above_at, above_each, many, sum_from, times, times-is, times-more, times-sum, times_le, total, total_least, total_most}
 use Rattle.hs_settled.proofs.DoneLemmas.{came_first, done_swept, is_done}
 use Rattle.hs_settled.proofs.StepLemmas.{Fits, Steps, is_delete, is_entered, is_of_line, is_swept, journal_steps}
 use Rattle.hs_settled.specs.Calm.{IsCalm}
@@ -11,12 +11,8 @@ use Rattle.hs_laws.specs.Valid.{IsValid}
 use Rattle.hs_model.specs.Run.{run}
 use Rattle.hs_model.specs.Store.{Store}
 use Rattle.hs_promise.specs.Answers.{IsEntry, events_in}
-use Rattle.hs_promise.specs.Completes.{entry_bound}
 use Rattle.hs_promise.specs.Run.{Ran, Script}
-use Rattle.hs_script.specs.Lines.{lines_of}
-use Rattle.hs_script.specs.Reading.{commands}
-use Rattle.hs_script.specs.Scripts.{delete_count}
-use Rattle.hs_settled.proofs.KindLemmas.{all_deletes, all_downs, all_kinds, all_lines}
+use Rattle.hs_settled.proofs.KindLemmas.{all_downs, all_kinds}
 
 -- ---- epochs
 
@@ -135,12 +131,3 @@ calm_most S entry last lines deletes notes caps r valid shards calm of_lines del
     left : Leaves (length entry.epochs) (many is_entered r.journal) (many is_swept r.journal) (many is_done r.journal) (many (is_delete S) r.journal)
     left = leaves entry (run S.set.limits entry (events_in S entry r.journal)) _ _ _ _ valid (journal_steps S last entry r.journal fits)
         (done_swept S last r.journal entry (slice_index entry.epochs 0 - 2) fits swept_ground (came_first S entry (slice_index entry.epochs 0 - 2) r calm.deletes))
-
--- of a script
-pub calm_short : (S : Script) (script : List ℕ) (entry : Store) (last : ℕ) (r : Ran) → ((n : ℕ) → S.commands n ≡ commands script n) → IsValid entry → length entry.epochs ≡ S.set.shape.shards
-    → IsCalm S entry last r → ((peer : ℕ) → note_count peer r.journal ≤ 1) → length r.journal ≤ entry_bound S (lines_of script)
-calm_short S script entry last r says valid shards calm notes =
-    calm_most S entry last (length (lines_of script)) (delete_count (lines_of script)) (peer_count S.set.shape) (λ peer. 1) r valid shards calm
-    (all_lines S (lines_of script) says r.journal calm.answers.ordered.named calm.answers.ordered.once)
-    (all_deletes S (lines_of script) says r.journal calm.answers.ordered.named calm.answers.ordered.once)
-    (λ peer low. notes peer) (let all = sum_ones 0 (peer_count S.set.shape) in omega (arith, all))

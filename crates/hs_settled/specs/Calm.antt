@@ -1,6 +1,6 @@
 -- What a journal is where no disk failed.
 use Rattle.std.specs.List.{AllByRecursion}
-use Rattle.std.specs.Prelude.{All, List, ℕ, ◌++◌, ◌≡◌}
+use Rattle.std.specs.Prelude.{All, List, ℕ, ◌≡◌}
 use Rattle.hs_journal.specs.declared.entry.JournalEntry.{JournalEntry}
 use Rattle.hs_journal.specs.declared.entry.Who.TheVariants as who
 use Rattle.hs_model.specs.Store.{Store}

@@ -1,5 +1,5 @@
 -- An event by which the core goes on: what becomes of each peer's log.
-use Rattle.std.proofs.Common.{◌≡◌, ◌∙◌, ap, sym, refl, inl, inr, ℕ, ◌≤◌, Bool, true, false, [], ◌∷◌, ◌++◌, Option, Some, None, length, arith}
+use Rattle.std.proofs.Common.{◌≡◌, ◌∙◌, ap, sym, subst, refl, inl, inr, ℕ, ◌≤◌, Bool, true, false, [], ◌∷◌, ◌++◌, Option, Some, None, length, arith}
 use Rattle.std.proofs.lemmas.Bool.{cases_lt}
 use Rattle.std.proofs.lemmas.Bool.Decides.{nat_tests}
 use Rattle.std.proofs.lemmas.List.{append-nil, get_or_past}
@@ -34,13 +34,14 @@ use Rattle.hs_journal.specs.declared.entry.Who.TheVariants as who
 use Rattle.hs_limits.specs.declared.limits.PeerStatus.{PeerStatus}
 use Rattle.hs_limits.specs.declared.limits.PeerStatus.TheVariants.{Down, Good, Joining}
 use Rattle.hs_limits.specs.declared.shape.Shape.{Shape}
-use Rattle.hs_members.specs.Members.{IsPeer, home_of, is_down}
+use Rattle.hs_members.specs.Members.{IsPeer, IsShard, home_of, is_down}
 use Rattle.hs_model.specs.declared.deed.Deed.TheVariants as deed
 use Rattle.hs_model.specs.declared.reply.Reply.{Reply}
 use Rattle.hs_model.specs.declared.reply.Reply.TheVariants as reply
 use Rattle.hs_model.specs.Refusals.{first, refused_when}
 use Rattle.hs_whole_copies.proofs.AllLemmas.{all_stay, shape_after}
 use Rattle.hs_whole_copies.specs.Whole.{IsShardInStep, IsWholeInStep, StaysWhole}
+use Rattle.hs_steady.proofs.EffectLemmas.{effect_grows}
 use Rattle.hs_steady.proofs.FaresLemmas.{falls_down, leaves_end}
 use Rattle.hs_steady.proofs.ListedLemmas.{IsReport, IsUntold, report_is}
 use Rattle.hs_steady.proofs.SteadyLemmas.{floor_within, home_low, its_shard, past_down, some_shard}
@@ -190,4 +191,5 @@ module _ (c : Whole) (e : Event) (at : ℕ) (machines : ℕ → Copies Entry) (w
     failed = failed;
     down = down;
     beside = beside;
+    effect = λ shard low. effect_grows shard c (step_whole e at c) (machines shard) (stays.machines shard) (w.each shard (subst (λ (x : Shape). IsShard x shard) same low)) (stays.keeps.each shard low) (stays.took shard low);
   }

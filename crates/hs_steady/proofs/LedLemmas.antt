@@ -1,19 +1,16 @@
 -- A good peer's list is a front of its lead's, and so is what a stop leaves of its disk at a moment of a run.
-use Rattle.std.proofs.Common.{◌≡◌, ◌∙◌, ap, sym, subst, refl, inl, inr, ℕ, zero, suc, ◌+◌, not, Bool, true, false, List, [], ◌∷◌, ◌++◌, Some, None, length, map}
+use Rattle.std.proofs.Common.{◌≡◌, ◌∙◌, ap, sym, subst, refl, inl, inr, ℕ, zero, suc, ◌+◌, not, Bool, true, false, List, [], ◌∷◌, ◌++◌, Some, None}
 use Rattle.std.proofs.lemmas.Bool.{cases_lt}
-use Rattle.std.proofs.lemmas.List.{append_assoc, map-append}
-use Rattle.std.specs.List.{enumerate_from}
+use Rattle.std.proofs.lemmas.List.{append_assoc}
 use Rattle.std.specs.Prelude.{drop, take}
 use Rattle.hs_cluster.proofs.GoingOnLemmas.{going_before}
 use Rattle.hs_cluster.proofs.StretchLemmas.{runs_core}
 use Rattle.hs_cluster.specs.Disks.{stands_of}
 use Rattle.hs_cluster.specs.Kept.{LeavesLists, Span}
 use Rattle.hs_copies.proofs.StandLemmas.{HasLead, stands_lead}
-use Rattle.hs_copies.specs.Lists.{IsFront, Item}
 use Rattle.hs_copies.specs.Machine.{Copies}
 use Rattle.hs_core_copies.proofs.LeadLemmas.{lead_is}
 use Rattle.hs_core_copies.proofs.StepLemmas.{lead_in_step}
-use Rattle.hs_core_copies.proofs.UnsealedLemmas.{numbered_append}
 use Rattle.hs_core_copies.specs.InStep.{IsOf, copies_in}
 use Rattle.hs_core_copies.specs.Lists.{numbered}
 use Rattle.hs_core_words.specs.Looking.{home, lead_of, shape_of, status_of}
@@ -38,28 +35,12 @@ use Rattle.hs_side.specs.Current.{list_in}
 use Rattle.hs_whole_copies.proofs.OpenLemmas.{opens_whole}
 use Rattle.hs_whole_copies.specs.Opening.{MayOpenWhole}
 use Rattle.hs_whole_copies.specs.Whole.{IsShardInStep, IsWholeInStep}
+use Rattle.hs_steady.proofs.EffectLemmas.{numbered_front}
 use Rattle.hs_steady.proofs.PeerLemmas.{good_stage, reach_good}
 use Rattle.hs_steady.proofs.ShowLemmas.{opened_shows, stays_along}
 use Rattle.hs_steady.proofs.StampLemmas.{one_stamp}
 use Rattle.hs_steady.proofs.SteadyLemmas.{its_shard, past_down}
 use Rattle.hs_steady.specs.Moments.{IsMomentOf, ShowsOpened}
-
--- ---- lists
-
-abbrev what : Item Entry → Entry
-what x = x.what
-
-front_rest : {X : Type 0} (xs ys : List X) → IsFront xs ys → (rest : List X) × (ys ≡ xs ++ rest)
-front_rest [] ys h = (ys, refl)
-front_rest (x ∷ xs) [] h = absurd h
-front_rest (x ∷ xs) (y ∷ ys) h = let r = front_rest xs ys h.1 in (r.0, (λ i. sym h.0 i ∷ r.1 i))
-
-numbered_front : (xs ys : List (Item Entry)) → IsFront xs ys → (more : Numbered) × (numbered ys ≡ numbered xs ++ more)
-numbered_front xs ys h =
-    let r = front_rest xs ys h in (
-      enumerate_from (1 + length (map what xs)) (map what r.0),
-      ap numbered r.1 ∙ ap (enumerate_from 1) (map-append what xs r.0) ∙ numbered_append 1 (map what xs) (map what r.0),
-    )
 
 -- ---- a peer of a shard, and its lead
 

@@ -1,4 +1,5 @@
 pub mod AlongLemmas
+pub mod EffectLemmas
 pub mod FallenLemmas
 pub mod FaresLemmas
 pub mod LeavesLemmas

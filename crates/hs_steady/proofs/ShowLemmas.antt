@@ -2,9 +2,12 @@
 use Rattle.std.proofs.Common.{◌≡◌, ◌∙◌, ap, sym, refl, ℕ, ◌≤◌, [], ◌∷◌, Option, Some, None, is_none}
 use Rattle.std.specs.Prelude.{⊤, OnOk, Result}
 use Rattle.hs_awaiting.specs.Words.{change_if}
+use Rattle.hs_cluster.specs.Counts.{AreAllCounted}
+use Rattle.hs_cluster.proofs.CachedLemmas.{none_cached}
+use Rattle.hs_cluster.specs.Cached.{AreCached}
 use Rattle.hs_cluster.specs.declared.fault.ClusterFault.{ClusterFault}
 use Rattle.hs_cluster.specs.Disks.{seen_at, stands_of}
-use Rattle.hs_cluster.specs.Kept.{LeavesLists, ShowsLists, Span}
+use Rattle.hs_cluster.specs.Kept.{AreStored, LeavesLists, ShowsLists, Span}
 use Rattle.hs_cluster.specs.Opens.{OpensLists}
 use Rattle.hs_cluster.specs.PeerLogs.{KeepsPeers, log_of_peer}
 use Rattle.hs_cluster.specs.RunsOn.{CanRunOn, RunsOn, from_opening}
@@ -31,8 +34,11 @@ use Rattle.hs_steady.proofs.RunLemmas.{are_steady, opens_steady}
 use Rattle.hs_steady.specs.Moments.{ShowsOpened}
 
 pub shows_span : (c : Whole) (span : Span) (result : Result ⊤ ClusterFault) (events : Events) (machines : ℕ → Copies Entry) → IsWholeInStep c machines → c.core ≡ span.old.core → ShowsLists span result events
-    → KeepsPeers c span.old.logs span.disks span.before → LeavesLists c events span × OnOk result (KeepsPeers (runs whole_machine c events) span.new.logs span.left span.now)
-shows_span c span result events machines w is shows kept = (shows.lists c is (are_steady c events machines w) kept, shows.goes_on c is (are_steady c events machines w) kept)
+    → KeepsPeers c span.old.logs span.disks span.before → AreCached c span.old.cache
+    → LeavesLists c events span × OnOk result (KeepsPeers (runs whole_machine c events) span.new.logs span.left span.now) × OnOk result (AreCached (runs whole_machine c events) span.new.cache)
+shows_span c span result events machines w is shows kept cached =
+    let steady = are_steady c events machines w in
+    (shows.lists c is steady kept cached, shows.goes_on c is steady kept, shows.cached c is steady kept cached)
 
 -- a core that goes on behind some events went on behind the first
 goes_first : (es : Events) (c : Core) (f : CoreFault) → c.ended ≡ Some f → (steps c es).ended ≡ Some f
@@ -51,12 +57,14 @@ stays_along c (e ∷ es) machines w on = go (step e.0 e.1 c.core).ended refl (λ
     go (Some f) i rest = let wrong : None ≡ Some f = sym on ∙ goes_first es (step e.0 e.1 c.core) f i in absurd (cc wrong)
 
 pub opens_showing : (set : Setting) (found : Found) (span : Span) (result : Result ⊤ ClusterFault) (events : Events) → MayOpenWhole set found → (first_core set found).ended ≡ None → span.old.core ≡ first_core set found
-    → ((c : Whole) → OpensLists set found c → KeepsPeers c span.old.logs span.disks span.before) → ShowsLists span result events
+    → ((c : Whole) → OpensLists set found c → KeepsPeers c span.old.logs span.disks span.before) → span.old.cache ≡ None → ShowsLists span result events
     → LeavesLists (open_whole set found) events span × OnOk result (KeepsPeers (runs whole_machine (open_whole set found) events) span.new.logs span.left span.now)
-opens_showing set found span result events may on is keeps shows =
+    × OnOk result (AreCached (runs whole_machine (open_whole set found) events) span.new.cache)
+opens_showing set found span result events may on is keeps uncached shows =
     let kept : KeepsPeers (open_whole set found) span.old.logs span.disks span.before = keeps (open_whole set found) (opens_lists set found may on) in
     let steady = opens_steady set found events may in
-    (shows.lists (open_whole set found) (sym is) steady kept, shows.goes_on (open_whole set found) (sym is) steady kept)
+    let none = none_cached (open_whole set found) span.old.cache uncached in
+    (shows.lists (open_whole set found) (sym is) steady kept none, shows.goes_on (open_whole set found) (sym is) steady kept, shows.cached (open_whole set found) (sym is) steady kept none)
 
 pub opened_shows : (set : Setting) (found : Found) (events : Events) (span : Span) → ShowsOpened set found events span → MayOpenWhole set found → (first_core set found).ended ≡ None → LeavesLists (open_whole set found) events span
 opened_shows set found events span shows may on = shows (open_whole set found) (opens_lists set found may on) (opens_steady set found events may)
@@ -65,6 +73,11 @@ opened_shows set found events span shows may on = shows (open_whole set found) (
 pub run_shows : (tells : Type 0) (set : Setting) (span : Span) (found : Found) (events : Events) (on : RunsOn tells set span found events) → tells → ((peer : ℕ) → (seen_at span.disks peer).stands.last ≤ span.before) → MayOpenWhole set found
     → (first_core set found).ended ≡ None → LeavesLists (open_whole set found) events (from_opening found on.disks span)
 run_shows tells set span found events on told called may going = opened_shows set found events (from_opening found on.disks span) (on.copies told called) may going
+
+-- and there reads too cost what they tell of failed calls, where what is to be read stands in the lists
+pub run_reads : (tells : Type 0) (set : Setting) (span : Span) (found : Found) (events : Events) (on : RunsOn tells set span found events) → tells → ((peer : ℕ) → (seen_at span.disks peer).stands.last ≤ span.before) → MayOpenWhole set found
+    → (first_core set found).ended ≡ None → AreStored (open_whole set found) events → AreAllCounted (first_core set found) events on.disks span.left
+run_reads tells set span found events on told called may going stored = on.reads told called (open_whole set found) (opens_lists set found may going) (opens_steady set found events may) stored
 
 -- and where it may go on a crash leaves just the list that is told of a peer's log
 pub run_rests : (tells : Type 0) (set : Setting) (span : Span) (found : Found) (events : Events) → CanRunOn tells set span found events → tells → ((peer : ℕ) → (seen_at span.disks peer).stands.last ≤ span.before) → MayOpenWhole set found

@@ -1,6 +1,6 @@
 -- Each first job of a store in step asks for what is next.
-use Rattle.std.proofs.Common.{◌≡◌, ◌∙◌, ap, sym, subst, refl, inl, inr, ℕ, zero, suc, ◌+◌, ◌-◌, ◌*◌, ◌/◌, ◌≤◌, ◌==◌, eqb-true, Bool, true, false, if◌then◌else◌, List, [], ◌∷◌, ◌++◌, Option, Some, None, length, map, arith}
-use Rattle.std.proofs.lemmas.Bool.{cases_lt}
+use Rattle.std.proofs.Common.{◌≡◌, ◌∙◌, ap, sym, subst, refl, inl, inr, ℕ, zero, suc, ◌+◌, ◌-◌, ◌*◌, ◌/◌, ◌<◌, ◌≤◌, ◌==◌, eqb-true, Bool, true, false, if◌then◌else◌, List, [], ◌∷◌, ◌++◌, Option, Some, None, length, map, arith}
+use Rattle.std.proofs.lemmas.Bool.{cases_lt, eq-eqb, ne_eqb}
 use Rattle.std.proofs.lemmas.List.{get_or_past, length-append}
 use Rattle.std.proofs.Math.Nat.{div-mul-le_self, mul-le-mul_right}
 use Rattle.std.specs.List.{enumerate_from}
@@ -32,6 +32,7 @@ use Rattle.hs_peerlog.specs.Lists.{numbered_entry}
 use Rattle.hs_whole_copies.proofs.CopiedLemmas.{next_copied}
 use Rattle.hs_whole_copies.specs.Copying.{IsNextCopied}
 use Rattle.hs_whole_copies.specs.Whole.{IsShardInStep, IsWholeInStep}
+use Rattle.hs_steady.proofs.EffectLemmas.{good_effect}
 use Rattle.hs_steady.proofs.PeerLemmas.{appended_is, floor_bad, floor_held, log_good, next_is, reach_good}
 
 -- ---- the entry of a number
@@ -52,6 +53,17 @@ entry_at m (suc k) i n (x ∷ es) entry is e = by (m == n) refl e i is (λ j on 
     by true f h (suc j) at rest = let number : m ≡ n = eqb-true m n f in absurd (omega (arith, at, number))
     by false f h zero at rest = let number : m ≡ n = omega (arith, at) in absurd (differs m n f number)
     by false f h (suc j) at rest = rest j (omega (arith, at)) h
+
+-- and what stands at its place among those that are taken is the entry of its number
+there_entry : (m k i n : ℕ) (es : List Entry) (entry : Entry) → n ≡ m + i → i < k → slice_get (enumerate_from m es) i ≡ Some (n, entry) → numbered_entry (take k (enumerate_from m es)) n ≡ Some entry
+there_entry m zero i n es entry is low e = absurd (omega (arith, low))
+there_entry m (suc k) i n [] entry is low e = let wrong : None ≡ Some (n, entry) = e in absurd (cc wrong)
+there_entry m (suc k) zero n (x ∷ es) entry is low e =
+    let both : Some (m, x) ≡ Some (n, entry) = e in
+    let pair : (m, x) ≡ (n, entry) = cc both in
+    ap (λ (b : Bool). if b then Some x else numbered_entry (take k (enumerate_from (m + 1) es)) n) (eq-eqb m n (omega (arith, is))) ∙ ap (λ (p : ℕ × Entry). Some p.1) pair
+there_entry m (suc k) (suc j) n (x ∷ es) entry is low e =
+    ap (λ (b : Bool). if b then Some x else numbered_entry (take k (enumerate_from (m + 1) es)) n) (ne_eqb m n (λ s. omega (arith, s, is))) ∙ there_entry (m + 1) k j n es entry (omega (arith, is)) (omega (arith, low)) e
 
 -- ---- the first job of a peer
 
@@ -75,6 +87,7 @@ module _ (g q : ℕ) (c : Whole) (s : Copies Entry) (k : IsShardInStep g c s) (o
     source = log_good c from led.good;
     follows = rw (t.joins, t.came, (copies_next (sealed_of t.lead_now c.core) t.rejoin from number t.next).done) refl;
     unsealed = floor_bad c q (ap is_good_status t.joins);
+    sealed = (n.entry, sealed_there);
     added = λ entry at. n.adds ∙ ap (λ x. (number, x) ∷ []) (same entry at);
   }
     where
@@ -83,6 +96,18 @@ module _ (g q : ℕ) (c : Whole) (s : Copies Entry) (k : IsShardInStep g c s) (o
 
       led : IsGoodLead c.core.members.shape g c.core.members from
       led = lead_is g c.core from (k.in_step.seated.placed g).few (ap (λ x. lead_of x c.core) (sym own) ∙ n.leads)
+
+      floor_is : floor c from ≡ sealed_of from c.core
+      floor_is = ap (λ b. if b then sealed_of from c.core else 0) (ap is_good_status led.good)
+
+      sealed_there : numbered_entry (sealed_front c from) number ≡ Some n.entry
+      sealed_there =
+          let es : List Entry = map (λ (x : Item Entry). x.what) (s.peers from).list in
+          let list : reach c from ≡ enumerate_from 1 es = reach_good g from c s k led.own led.good ∙ k.lists from led.own in
+          let place : number ≡ 1 + (number - 1) = omega (arith, n.next) in
+          let low : number - 1 < floor c from = omega (arith, n.next, n.sealed, floor_is) in
+          ap (λ xs. numbered_entry (take (floor c from) xs) number) list
+          ∙ there_entry 1 (floor c from) (number - 1) number es n.entry place low (ap (λ xs. slice_get xs (number - 1)) (sym (k.lists from led.own)) ∙ n.there)
 
       same : (entry : Entry) → numbered_entry (sealed_front c from) number ≡ Some entry → n.entry ≡ entry
       same entry at =
@@ -170,4 +195,5 @@ module _ (c : Whole) (machines : ℕ → Copies Entry) (w : IsWholeInStep c mach
   steady = record {
     within = floor_within;
     asks = λ q j low e. asks_next (home q c.core) q c (machines (home q c.core)) (its_shard q low) refl j e;
+    reads = λ q number low e. good_effect c q (machines (home q c.core)) (its_shard q low) (first_is_next (home q c.core) q c.core (machines (home q c.core)) (job.Read number) (its_shard q low).in_step refl e);
   }

@@ -1,13 +1,12 @@
 -- The laws by which a run keeps what is promised of it, as calls of them ensure them.
-use Rattle.std.specs.Prelude.{All, IfSome, None, Option, Some, [], false, length, true, ℕ, ◌++◌, ◌+◌, ◌<◌, ◌≡◌, ◌≤◌, List}
+use Rattle.std.specs.Prelude.{All, IfSome, None, Option, Some, [], false, length, true, ℕ, ◌+◌, ◌<◌, ◌≡◌, ◌≤◌, List}
 use Rattle.hs_settled.specs.Opened.{IsAsideAs, OpensRanked}
 use Rattle.hs_settled.specs.Printing.{FailsInOpening, FailsInText, LeavesUnread}
 use Rattle.hs_clauses.specs.Asked.{start_of}
 use Rattle.hs_clauses.specs.Shown.{HasItsDisks, IsShownRun, IsToldAs, IsToldRun, RunsSoundly}
 use Rattle.hs_cluster.specs.Kept.{AreStored}
 use Rattle.hs_desk.specs.declared.fault.CoreFault.{CoreFault}
-use Rattle.hs_settled.specs.Calm.{AreLed, whole_of}
-use Rattle.hs_settled.specs.Ending.{HasItsCause, TellsAsPromised}
+use Rattle.hs_settled.specs.Ending.{HasItsCause}
 use Rattle.hs_events.specs.Due.{Events}
 use Rattle.hs_events.specs.Beginning.{first_items}
 use Rattle.hs_events.specs.Found.{Found, first_core, opened_list, starts_good}
@@ -22,15 +21,16 @@ use Rattle.hs_journal.specs.Moments.{below}
 use Rattle.hs_journal.specs.Notes.{note_count}
 use Rattle.hs_journal.specs.Order.{IsOrdered}
 use Rattle.hs_journal.specs.Telling.{AreDated}
-use Rattle.hs_laws.specs.Valid.{IsValid}
 use Rattle.hs_limits.specs.Shape.{IsShape}
 use Rattle.hs_ports.specs.Fault.{HasRisen}
 use Rattle.hs_ports.specs.Objects.{faults_at}
 use Rattle.hs_promise.specs.Answers.{Answers, BeganNothing, IsEntry}
+use Rattle.hs_promise.specs.Calm.{RisesAreTold}
 use Rattle.hs_promise.specs.Causes.{Cause, CauseButLoss, FullCause}
-use Rattle.hs_promise.specs.Completes.{EndsWell, HasPrompt, MayEndWell, SettlesEach}
+use Rattle.hs_promise.specs.Completes.{EndsWell, FullBeyond, HasPrompt, MayEndWell, SettlesEach}
 use Rattle.hs_promise.specs.declared.status.Status.TheVariants as status
 use Rattle.hs_promise.specs.Deletes.{Deletes}
+use Rattle.hs_promise.specs.Ending.{ending_of}
 use Rattle.hs_promise.specs.Ends.{Ends}
 use Rattle.hs_promise.specs.Entry.{IsSoundAtEntry, MayStop, entry_store}
 use Rattle.hs_promise.specs.Headers.{KeepsHeaders}
@@ -94,16 +94,13 @@ pub record Laws : Type 0 where
       → AllMayKeep (start_of S r) (MayRun (start_of S r)) (first_core S.set story.found) (all_events story) → Answers S (entry_store S r) r.journal
       → SettlesEach S (entry_store S r) r
   -- ends
-  pub valid : (S : Script) (r : Ran) → IsSoundAtEntry S r → IsValid (entry_store S r)
-  pub whole : (S : Script) (r : Ran) (story : Story) → Went S r story → RunBegins (start_of S r) story.found
-      → AllMayKeep (start_of S r) (MayRun (start_of S r)) (first_core S.set story.found) (all_events story) → Deletes S (entry_store S r) (whole_of r)
-  pub whole_ended : (S : Script) (r : Ran) (story : Story) (fault : CoreFault) → Went S r story → (first_core S.set story.found).ended ≡ Some fault
-      → Deletes S (entry_store S r) (whole_of r)
-  pub whole_never : (S : Script) (r : Ran) → NeverOpened r → Deletes S (entry_store S r) (whole_of r)
-  pub led : (S : Script) (r : Ran) (story : Story) → Went S r story → RunBegins (start_of S r) story.found
-      → AllMayKeep (start_of S r) (MayRun (start_of S r)) (first_core S.set story.found) (all_events story) → AreLed (r.journal ++ r.refused)
-  pub led_ended : (S : Script) (r : Ran) (story : Story) (fault : CoreFault) → Went S r story → (first_core S.set story.found).ended ≡ Some fault
-      → AreLed (r.journal ++ r.refused)
-  pub led_never : (r : Ran) → NeverOpened r → AreLed (r.journal ++ r.refused)
+  pub room : (S : Script) (r : Ran) (story : Story) → RunsSoundly S r story → FullBeyond S r
+  pub room_ended : (S : Script) (r : Ran) (story : Story) (fault : CoreFault) → Went S r story → (first_core S.set story.found).ended ≡ Some fault → FullBeyond S r
+  pub room_never : (S : Script) (r : Ran) → NeverOpened r → FullBeyond S r
   pub ends_well : (S : Script) (r : Ran) (script left : List ℕ) → ((n : ℕ) → S.commands n ≡ commands script n) → HasItsCause S r → Ends r script left
-      → TellsAsPromised S r → MayEndWell S script r → EndsWell S r
+      → FullBeyond S r → MayEndWell S script r → EndsWell S r
+  -- counts
+  pub rises : (S : Script) (r : Ran) (story : Story) → Went S r story
+      → ((ending_of r.ending).short ≡ false → (disk : ℕ) → starts_good story.found disk ≡ true → failures true disk (first_core S.set story.found) (all_events story) ≡ 0 → faults_at r.new.disk_faults disk ≡ faults_at r.old.disk_faults disk)
+      → RisesAreTold S r
+  pub rises_never : (S : Script) (r : Ran) → NeverOpened r → RisesAreTold S r

@@ -1,37 +1,32 @@
 -- What is promised of a run, from what hs_run says of it and the laws.
 use Rattle.std.proofs.Common.{◌≡◌, ◌∙◌, inl, ap, refl, true, ℕ, ◌*◌, ◌<◌, ◌++◌, arith, List, Option, Some, None, length}
-use Rattle.std.proofs.lemmas.Bool.{false≢true}
 use Rattle.std.specs.Prelude.{IfSome, IsSome}
 use Rattle.hs_settled.specs.Printing.{FailsInOpening, FailsInText, LeavesUnread}
 use Rattle.hs_clauses.proofs.FoundLemmas.{opens_good}
 use Rattle.hs_clauses.proofs.ShownLemmas.{shown_of, unopened_of}
 use Rattle.hs_clauses.specs.Shown.{IsShownRun, OnDisks, ShownAs}
-use Rattle.hs_settled.specs.Ending.{HasItsCause, TellsAsPromised}
 use Rattle.hs_events.specs.Found.{starts_good}
 use Rattle.hs_standing.specs.Held.{GivesAddresses}
 use Rattle.hs_journal.specs.Events.{client_op}
 use Rattle.hs_model.specs.declared.command.Command.{Command}
 use Rattle.hs_promise.specs.Answers.{Prints}
+use Rattle.hs_promise.specs.Calm.{RisesAreTold}
 use Rattle.hs_promise.specs.Causes.{Cause}
-use Rattle.hs_promise.specs.Completes.{EndsWell, MayEndWell}
 use Rattle.hs_promise.specs.declared.status.Status.TheVariants as status
-use Rattle.hs_promise.specs.Ends.{Ends}
 use Rattle.hs_promise.specs.Entry.{IsSoundAtEntry, is_aside}
 use Rattle.hs_promise.specs.Lost.{NotesCause}
 use Rattle.hs_promise.specs.Machine.{WentAs}
-use Rattle.hs_promise.specs.Promise.{Clauses}
 use Rattle.hs_promise.specs.Untold.{IsGoodUntold}
 use Rattle.hs_promise.specs.Run.{Ran, Script}
 use Rattle.hs_promise.specs.Story.{Story}
 use Rattle.hs_run.proofs.CaseLemmas.{if_told}
 use Rattle.hs_run.specs.Machine.{HasItsEnd, HasReadDisks, IsOfCluster, IsUnopened, RunsOnDisks}
-use Rattle.hs_script.specs.Reading.{commands}
-use Rattle.hs_top.proofs.FromEntryLemmas.{from_entry, led, whole}
+use Rattle.hs_top.proofs.FromEntryLemmas.{from_entry}
 use Rattle.hs_top.proofs.LawLemmas.{Laws}
 use Rattle.hs_top.proofs.NoteLemmas.{WhyAside, failed_by, never_aside, why_aside}
 use Rattle.hs_top.proofs.RankLemmas.{ranked_by}
 use Rattle.hs_top.proofs.PastLemmas.{never_past}
-use Rattle.hs_top.specs.Calls.{FromEntry, Promised, PromisedAlone, PromisedWhereTold}
+use Rattle.hs_top.specs.Calls.{Promised, PromisedAlone, PromisedWhereTold}
 
 module _ (laws : Laws) (tells : Type 0) (S : Script) (r : Ran) (names : GivesAddresses S.set.name) (asked : r.ending ≡ status.Usage → ⊥) (cluster : IsOfCluster tells S r) where
   nobody : client_op (S.commands 0) ≡ None
@@ -65,6 +60,11 @@ module _ (laws : Laws) (tells : Type 0) (S : Script) (r : Ran) (names : GivesAdd
       let count : S.set.shape.shards * S.set.shape.copies ≡ S.set.shape.shards = ap (λ n. S.set.shape.shards * n) one ∙ omega arith in
       let within : peer < S.set.shape.shards * S.set.shape.copies = low in
       opens_good S r story went.found one m peer above (omega (arith, within, count)) start)
+
+  -- no count rises of which nothing is told
+  rises_by : (how : Option Story) → WentAs S r how → IfSome how (RunsOnDisks tells S r) → RisesAreTold S r
+  rises_by None went runs = laws.rises_never S r went
+  rises_by (Some story) went runs = laws.rises S r story went runs.untold
 
   -- ---- with one copy a shard
 
@@ -101,9 +101,6 @@ module _ (laws : Laws) (tells : Type 0) (S : Script) (r : Ran) (names : GivesAdd
       run : IsShownRun S r
       run = record { on = on; how = cluster.how; shown = shown }
 
-      of_entry : IsSoundAtEntry S r → FromEntry S r
-      of_entry sound = from_entry laws tells S r names cluster told (inl one) sound
-
       aside_by : (how : Option Story) → WentAs S r how → ShownAs S r how → (p : ℕ) → p < length r.old.disks → is_aside S r p ≡ true → WhyAside r p
       aside_by None went so p low is = never_aside S r went p is
       aside_by (Some story) went so p low is = why_aside S r story on so p low is
@@ -113,42 +110,8 @@ module _ (laws : Laws) (tells : Type 0) (S : Script) (r : Ran) (names : GivesAdd
       notes_by (Some story) went read runs so =
           laws.notes S r story went read.read (runs.lost told) (λ going. failed_by laws S r story on so going tells told runs) (λ several. absurd (several one))
 
-      -- ---- how a run without faults ends
-
-      its_cause : HasItsCause S r
-      its_cause = record { cause = cause; asked = asked; shape = (cluster.served.shape told).only }
-
-      tells_so : IsSoundAtEntry S r → TellsAsPromised S r
-      tells_so sound = record {
-        valid = laws.valid S r sound;
-        entries = laws.entries S r cluster.how cluster.went;
-        notes = notes_by cluster.how cluster.went (cluster.told told) cluster.runs shown;
-        full = (of_entry sound).full;
-        deletes = whole laws tells S r names cluster told (inl one) sound;
-        led = led laws tells S r names cluster told (inl one) sound;
-      }
-
-      ends_by : (old new : Option (List ℕ)) → IfSome old (λ script. (n : ℕ) → S.commands n ≡ commands script n) → IfSome old (λ script. IfSome new (Ends r script))
-          → (IsSome old → IsSome new) → IsSoundAtEntry S r → IfSome old (λ script. MayEndWell S script r → EndsWell S r)
-      ends_by None new reads ends left sound = tt
-      ends_by (Some script) None reads ends left sound = absurd (false≢true (left refl))
-      ends_by (Some script) (Some rest) reads ends left sound = λ may. laws.ends_well S r script rest reads its_cause ends (tells_so sound) may
-
-      -- ---- all of it
-
-      clauses : IsSoundAtEntry S r → Clauses S r
-      clauses sound = record {
-        answers = (of_entry sound).answers;
-        full = (of_entry sound).full;
-        keeps = (of_entry sound).keeps;
-        deletes = (of_entry sound).deletes;
-        settles = (of_entry sound).settles;
-        ends = ends_by r.old.left r.new.left cluster.script cluster.served.ends cluster.served.left sound;
-      }
-
       where_told : PromisedWhereTold S r
       where_told = record {
-        clauses = clauses;
         stops = λ may. laws.stops S r run (cluster.served.headers told) may;
         past = cluster.served.past one told;
         aside = aside_by cluster.how cluster.went shown;
@@ -173,13 +136,13 @@ module _ (laws : Laws) (tells : Type 0) (S : Script) (r : Ran) (names : GivesAdd
     no_load = cluster.served.no_load;
     cause = laws.any_cause S r cluster.how cluster.went cluster.served.causes.read cluster.served.causes.write cluster.served.within;
     lost = λ told. laws.cause S r cluster.how cluster.went (λ several. ranked_by S r cluster.how cluster.shape cluster.went (cluster.told told)) cluster.served.causes.read cluster.served.causes.write cluster.served.within;
-    calm = cluster.served.calm;
+    calm = record { told = rises_by cluster.how cluster.went cluster.runs; other = cluster.served.others };
     ordered = laws.ordered S r cluster.how nobody cluster.went;
     none_good = λ none. laws.none_good S r cluster.how cluster.went cluster.shape in_opening none;
     good = good_by cluster.how cluster.went;
     ends = cluster.served.ends;
     shape = cluster.served.shape;
     headers = cluster.served.headers;
-    from_entry = λ told behind sound. from_entry laws tells S r names cluster told behind sound;
+    from_entry = λ told behind sound. from_entry laws tells S r names cluster told behind sound asked;
     alone = promised_alone;
   }

@@ -12,16 +12,14 @@ use Rattle.hs_load.specs.Loaded.{IsLoaded}
 use Rattle.hs_model.specs.declared.command.Command.{Command}
 use Rattle.hs_ports.specs.Moments.{disk_at}
 use Rattle.hs_ports.specs.Objects.{CountsStand, KeepsPast, KeepsTime}
-use Rattle.hs_promise.specs.Answers.{Answers, Prints}
+use Rattle.hs_promise.specs.Answers.{Prints}
 use Rattle.hs_promise.specs.Calm.{EndsCalm}
-use Rattle.hs_promise.specs.Causes.{Cause, CauseButLoss, FullCause}
-use Rattle.hs_promise.specs.Completes.{HasPrompt, SettlesEach}
-use Rattle.hs_promise.specs.Deletes.{Deletes}
+use Rattle.hs_promise.specs.Causes.{Cause, CauseButLoss}
+use Rattle.hs_promise.specs.Completes.{HasPrompt}
 use Rattle.hs_promise.specs.Ends.{Ends}
 use Rattle.hs_promise.specs.Entry.{IsSoundAtEntry, MayStop, entry_store, is_aside}
 use Rattle.hs_promise.specs.Headers.{KeepsHeaders}
-use Rattle.hs_promise.specs.Kept.{KeepsAlong}
-use Rattle.hs_promise.specs.Lost.{NoneGoodCause, NotesCause, NotesEnd}
+use Rattle.hs_promise.specs.Lost.{AsideCause, NoneGoodCause, NotesCause, NotesEnd}
 use Rattle.hs_promise.specs.Promise.{AreOfScript, Clauses, IsUsage}
 use Rattle.hs_promise.specs.Run.{DiskRose, IsNoLoad, Ran, Script, script_of}
 use Rattle.hs_promise.specs.Shapes.{ShapeCause}
@@ -36,21 +34,18 @@ use Rattle.hs_top.specs.Words.{served_on}
 
 -- ---- what is promised of a run: `Promise` of hs_promise, and what stands beside it of any run
 
--- with one copy a shard, over disks that tell their contents; a peer is set aside only where its disk failed, or has no log
+-- with one copy a shard, over disks that tell their contents, whatever lists they have; a peer is set aside only where its disk failed, or has no log
 pub record PromisedWhereTold (S : Script) (r : Ran) : Type 0 where
-  pub clauses : IsSoundAtEntry S r → Clauses S r
   pub stops : MayStop S r → Stops S (entry_store S r) r
   pub past : KeepsPast r.old r.new
   pub aside : (peer : ℕ) → peer < length r.old.disks → is_aside S r peer ≡ true → DiskRose r 1 peer ⊎ (list_in (disk_at r.old.disks peer).seen ≡ None)
   pub notes : NotesCause S r
 
--- clauses 1, 2 and 4, and of clause 5 what each settle has done: from the store at entry, with any number of copies
+-- from the store at entry, with any number of copies: clauses 1, 2, 4 and 5; and how often a peer is told to be down, and why one is set aside
 pub record FromEntry (S : Script) (r : Ran) : Type 0 where
-  pub answers : Answers S (entry_store S r) r.journal
-  pub full : FullCause S (entry_store S r) r
-  pub keeps : KeepsAlong S (entry_store S r) r
-  pub deletes : Deletes S (entry_store S r) r
-  pub settles : SettlesEach S (entry_store S r) r
+  pub clauses : Clauses S r
+  pub notes : NotesCause S r
+  pub aside : AsideCause S r
 
 -- so far with one copy a shard: why one is lost, whatever the disks tell; and what notes tell
 pub record PromisedAlone (tells : Type 0) (S : Script) (r : Ran) : Type 0 where

@@ -12,9 +12,9 @@ abbrev pub is_load_task : Task → Bool
 is_load_task (task.Load seed writers files) = true
 is_load_task other = false
 
--- what is served so far: a script without --visits and --cache, a load, an audit, a scrub, storing and fetching a file, and copying a root
+-- what is served so far: a script without --visits, a load, an audit, a scrub, storing and fetching a file, and copying a root
 abbrev pub is_served : Task → Bool
-is_served (task.Script limits None None) = true
+is_served (task.Script limits None cache) = true
 is_served (task.Load seed writers files) = true
 is_served task.Audit = true
 is_served (task.Store key) = true

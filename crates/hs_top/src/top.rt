@@ -21,24 +21,27 @@ use hs_desk::OpenGate;
 use hs_limits::{Limits, Shape};
 use hs_ports::{Disk, Sink, Source, Watch};
 use hs_promise::{Outcome, Status};
+use hs_room::a_run_with_room_is_not_full;
 use hs_run::{closed, run_script_on};
 use hs_script::Task;
 use hs_settled::{
-    a_calm_run_ends_well, a_full_journal_deletes_as_promised, a_journal_is_in_order,
-    a_note_ends_the_run, a_peer_is_good_until_it_is_told, a_prompt_line_has_its_entry,
-    a_run_deletes_as_promised, a_run_without_a_course_began_nothing,
-    a_run_without_a_course_has_its_cause, each_entry_stands_for_its_cause, each_note_has_its_cause,
-    each_settle_settles, each_status_has_its_cause, notes_have_their_line, shard_0_is_led_by_lines,
+    a_calm_run_ends_well, a_journal_is_in_order, a_note_ends_the_run,
+    a_peer_is_good_until_it_is_told, a_prompt_line_has_its_entry, a_run_deletes_as_promised,
+    a_run_without_a_course_began_nothing, a_run_without_a_course_has_its_cause,
+    each_entry_stands_for_its_cause, each_note_has_its_cause, each_rise_is_told,
+    each_settle_settles, each_status_has_its_cause, notes_have_their_line,
 };
 use std::alloc::Global;
 use std::sync::Wait;
 use std::thread::Threads;
 
-/// Runs a script on a store. The calls before it are laws.
+/// Runs a script on a store, with a cache of at most so many blocks, or none. The calls before it are
+/// laws.
 fn run_script<A: Addresser, S: Source, K: Sink, D: Disk>(
     alloc: Global,
     shape: Shape,
     limits: Limits,
+    cached: u32,
     naming: &A,
     source: &mut S,
     sink: &mut K,
@@ -73,10 +76,12 @@ fn run_script<A: Addresser, S: Source, K: Sink, D: Disk>(
     a_run_may_stop();
     a_run_deletes_as_promised();
     each_settle_settles();
-    a_full_journal_deletes_as_promised();
-    shard_0_is_led_by_lines();
+    a_run_with_room_is_not_full();
     a_calm_run_ends_well();
-    run_script_on(alloc, shape, limits, naming, source, sink, disks, watch)
+    each_rise_is_told();
+    run_script_on(
+        alloc, shape, limits, cached, naming, source, sink, disks, watch,
+    )
 }
 
 /// Does what is asked for, which is served.
@@ -104,9 +109,12 @@ fn do_task<A: Addresser, S: Source, K: Sink, D: Disk + Drop>(
     ensures begun { result.status ≡ Status.Usage → ⊥ }
 {
     match task {
-        Task::Script { limits, .. } => {
+        Task::Script { limits, cache, .. } => {
+            let cached = cache.unwrap_or(0);
             let handed = disks.as_mut_slice();
-            run_script(alloc, shape, *limits, naming, source, sink, handed, watch)
+            run_script(
+                alloc, shape, *limits, cached, naming, source, sink, handed, watch,
+            )
         }
         Task::Audit => {
             let handed = disks.as_mut_slice();

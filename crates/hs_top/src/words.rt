@@ -70,7 +70,7 @@ fn is_served(task: &Task<'_>) -> bool
         Task::Script {
             limits: _,
             visits: None,
-            cache: None,
+            cache: _,
         }
         | Task::Load { .. }
         | Task::Audit

@@ -10,7 +10,6 @@ use Rattle.hydra.specs.declared.usage.Later.TheVariants as later
 unfoldable pub later_option : List (List ℕ) → Option Later
 later_option words =
     if list_any (λ word. bytes_eq word (codes "--visits")) words then Some later.Visits
-    else if list_any (λ word. bytes_eq word (codes "--cache")) words then Some later.Cache
     else None
 
 -- an option of a script that a later step serves
@@ -26,7 +25,6 @@ later_in other = None
 abbrev pub later_text : Option Later → List ℕ
 later_text None = codes "hydra: see hydra --help\n"
 later_text (Some later.Visits) = codes "hydra: --visits is not served yet: see hydra --help\n"
-later_text (Some later.Cache) = codes "hydra: --cache is not served yet: see hydra --help\n"
 
 -- the line where the words name no shape, and nothing where they name one
 abbrev pub unshaped_text : Option Shape → List (List ℕ) → List ℕ

@@ -12,7 +12,6 @@ use std::io::Write;
 #[derive(Clone, Copy)]
 pub enum Later {
     Visits,
-    Cache,
 }
 
 /// Writes where the words of the command language are told, if these are outside it, and which of
@@ -39,7 +38,6 @@ fn later_line(later: Option<Later>) -> &'static str
     match later {
         None => "hydra: see hydra --help\n",
         Some(Later::Visits) => "hydra: --visits is not served yet: see hydra --help\n",
-        Some(Later::Cache) => "hydra: --cache is not served yet: see hydra --help\n",
     }
 }
 
@@ -72,8 +70,6 @@ fn later_option(words: &[String]) -> Option<Later>
 {
     if has_word(words, b"--visits") {
         Some(Later::Visits)
-    } else if has_word(words, b"--cache") {
-        Some(Later::Cache)
     } else {
         None
     }

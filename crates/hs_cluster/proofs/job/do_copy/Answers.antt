@@ -2,9 +2,9 @@ use Rattle.std.proofs.Common.{◌≡◌, ◌∙◌, ◌<◌, Some, arith, inl, l
 use Rattle.std.specs.Prelude.{slice_index_or}
 use Rattle.std.proofs.lemmas.Grind.{common_steps}
 use Rattle.std.proofs.lemmas.List.{length-set}
-use Rattle.hs_cluster.proofs.CountLemmas.{copied_results, falls_not, falls_then, paid_at, rises_not, stand_at, stand_failed, stand_then}
+use Rattle.hs_cluster.proofs.CountLemmas.{copied_results, failed_risen, falls_not, falls_then, paid_at, risen_at, risen_result, rises_not, stand_at, stand_failed, stand_then}
 use Rattle.hs_cluster.proofs.CopyLemmas.{beside_one, beside_read, beside_same, beside_then, lead_answers, told_as, works_copied, works_read}
-use Rattle.hs_cluster.proofs.DiskLemmas.{at_ok, ready_slot, since_of, slot_at}
+use Rattle.hs_cluster.proofs.DiskLemmas.{at_ok, log_read, ready_slot, since_of, slot_at}
 use Rattle.hs_cluster.proofs.GrowingLemmas.{goes_at, goes_same, goes_then, slot_gone, slot_same}
 use Rattle.hs_cluster.proofs.HeadLemmas.{headed_still, heads_at, heads_on, heads_stay, none_there}
 use Rattle.hs_cluster.specs.Headed.{StaysHeaded}
@@ -99,6 +99,34 @@ returns-in-Err-clause-calm g c =
     let f : g.row.D.Denot → DiskSeen = λ disk. seen_as (g.D.Disk.size disk) (g.D.Disk.stands disk) (g.D.Disk.faults disk) in
     let source : c.from-source.result ≡ c.args.from = grind (arith, common_steps) in
     told_as c.failed_read.result (done.Failed c.args.from) _ (stand_failed f c.args.disks.now c.args.from c.from-source.result c.read_copy.new.disk source) c.failed_read.ensures.told
+
+-- ---- a read that failed
+
+pub returns-then-source-len-clause-read : goal.returns-then-source-len-clause-read
+returns-then-source-len-clause-read g c = λ told list waiting entry has found. tt
+
+pub returns-in-Ok-clause-read : goal.returns-in-Ok-clause-read
+returns-in-Ok-clause-read g c = λ told list waiting entry has found.
+    let f : g.row.D.Denot → DiskSeen = λ disk. seen_as (g.D.Disk.size disk) (g.D.Disk.stands disk) (g.D.Disk.faults disk) in
+    let disks = slice_set c.args.disks.now c.from-source.result c.read_copy.new.disk in
+    let in_disks : c.from-source.result < length c.args.disks.now = grind (arith, common_steps) in
+    let low : c.from-place.result < length disks = grind (arith, common_steps, length-set c.args.disks.now c.from-source.result c.read_copy.new.disk) in
+    let place : c.from-place.result ≡ c.args.peer = grind (arith, common_steps) in
+    risen_result c.args.peer c.write_copy.result (map f c.args.disks.now) (map f disks) (map f (slice_set disks c.from-place.result c.write_copy.new.disk))
+    (falls_not f c.args.disks.now c.from-source.result c.index-disks-source.result c.read_copy.new.disk in_disks c.read_copy.ensures.later)
+    (paid_at f disks c.args.peer c.from-place.result c.index-disks-place.result c.write_copy.new.disk c.write_copy.result place low c.write_copy.ensures.paid)
+
+pub returns-in-Err-clause-read : goal.returns-in-Err-clause-read
+returns-in-Err-clause-read g c = λ told list waiting entry has found.
+    let f : g.row.D.Denot → DiskSeen = λ disk. seen_as (g.D.Disk.size disk) (g.D.Disk.stands disk) (g.D.Disk.faults disk) in
+    let item : c.index_mut.result.now ≡ log_at c.args.logs.now.items c.from-source.result = grind (arith, common_steps) in
+    let in_disks : c.from-source.result < length c.args.disks.now = grind (arith, common_steps) in
+    let source : c.from-source.result ≡ c.args.from = grind (arith, common_steps) in
+    failed_risen c.args.from c.in-Err.fault _ _ c.failed_read.result (map f c.args.disks.now) (map f (slice_set c.args.disks.now c.from-source.result c.read_copy.new.disk))
+    (c.in-Err.ensures.refused told list waiting entry (log_read f c.args.logs.now.items c.args.disks.now c.args.from c.from-source.result c.index_mut.result.now c.index-disks-source.result list waiting source in_disks item has) found)
+    c.in-Err.ensures.cause
+    (risen_at f c.args.disks.now c.args.from c.from-source.result c.index-disks-source.result c.read_copy.new.disk source in_disks)
+    c.failed_read.ensures.told c.failed_read.ensures.memory
 
 -- ---- what it leaves
 

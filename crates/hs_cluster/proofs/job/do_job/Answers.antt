@@ -1,12 +1,12 @@
 use Rattle.std.proofs.Common.{rules, ◌≡◌, ◌∙◌, ◌<◌, Some, false, ap, arith, length, map, refl, slice_set, subst, sym, true}
 use Rattle.std.proofs.lemmas.Grind.{common_steps}
 use Rattle.std.specs.Prelude.{IfOk, IsSome, slice_index_or}
-use Rattle.hs_cluster.proofs.CopyLemmas.{beside_one, beside_same, usual_own, works_cut, works_own, works_reset}
-use Rattle.hs_cluster.proofs.CountLemmas.{all_paid_result, copy_paid_result, falls_not, falls_same, job_paid_result, paid_at, stand_at}
+use Rattle.hs_cluster.proofs.CopyLemmas.{beside_one, beside_same, copy_not_reset, copy_same, usual_not, usual_own, works_cut, works_own, works_reset}
+use Rattle.hs_cluster.proofs.CountLemmas.{all_paid_result, copy_paid_result, falls_not, falls_same, job_paid_result, paid_at, stand_at, told_paid_result}
 use Rattle.hs_cluster.proofs.DiskLemmas.{log_read, not_own, reads_at, since_of, slot_at, stored_as, works_at, works_nothing}
 use Rattle.hs_cluster.proofs.GrowingLemmas.{goes_at, goes_same}
 use Rattle.hs_cluster.proofs.HeadLemmas.{heads_at, heads_stay}
-use Rattle.hs_cluster.specs.Disks.{DiskSeen, log_at, seen_as}
+use Rattle.hs_cluster.specs.Disks.{DiskSeen, log_at, seen_as, stands_of}
 use Rattle.hs_cluster.specs.declared.fault.ClusterFault.TheVariants.{NoMemory}
 use Rattle.hs_cluster.specs.Headed.{IsHeaded, StaysHeaded}
 use Rattle.hs_cluster.specs.Jobs.{FailsAlone, StandsBeside, Works, WorksAlone, is_own}
@@ -15,6 +15,8 @@ use Rattle.hs_desk.specs.declared.job.Job.{Job}
 use Rattle.hs_desk.specs.declared.job.Job.TheVariants as job
 use Rattle.hs_limits.specs.declared.shape.Shape.{Shape}
 use Rattle.hs_members.specs.Members.{home_of, is_joining}
+use Rattle.hs_peerlog.specs.Lists.{IsKept, Keeping, numbered_entry}
+use Rattle.hs_ports.specs.Moments.{disk_at}
 use Rattle.hs_side.specs.Headers.{own_header}
 use Rattle.hs_cluster.proofs.job.do_job.Goals as goal
 
@@ -181,6 +183,54 @@ returns-in-Append-clause-read g c = λ told own list waiting has stored.
     (log_read f c.args.logs.now.items c.args.disks.now c.args.peer c.from-place.result c.index_mut-in-Append.result.now c.index-disks-place-in-Append.result list waiting place low item has)
     (stored_as (first_job c.args.peer c.args.core.now) (Some c.in-Some.job.now) (catalogue_of (home c.args.peer c.args.core.now) c.args.core.now) c.catalogue-catalogue.result.now list first
     (c.catalogue-catalogue.ensures ∙ ap (λ k. catalogue_of k c.args.core.now) shard) stored)))
+
+-- of an emptying
+
+pub returns-in_default-clause-emptied : goal.returns-in_default-clause-emptied
+returns-in_default-clause-emptied g c = λ is. tt
+
+pub returns-in-Reset-clause-emptied : goal.returns-in-Reset-clause-emptied
+returns-in-Reset-clause-emptied g c = λ is.
+    let f : g.row.D.Denot → DiskSeen = λ disk. seen_as (g.D.Disk.size disk) (g.D.Disk.stands disk) (g.D.Disk.faults disk) in
+    let low : c.from-place.result < length c.args.disks.now = grind (arith, common_steps) in
+    let place : c.from-place.result ≡ c.args.peer = grind (arith, common_steps) in
+    all_paid_result c.args.core.now c.args.peer c.do_reset.result (map f c.args.disks.now) (map f (slice_set c.args.disks.now c.from-place.result c.do_reset.new.disk))
+    (paid_at f c.args.disks.now c.args.peer c.from-place.result c.index-disks-place.result c.do_reset.new.disk c.do_reset.result place low c.do_reset.ensures.paid)
+
+pub returns-in-Copy-clause-emptied : goal.returns-in-Copy-clause-emptied
+returns-in-Copy-clause-emptied g c = λ is.
+    let first : Some c.in-Some.job.now ≡ first_job c.args.peer c.args.core.now = first_of (search rules, grind (arith, common_steps)) in
+    absurd (copy_not_reset (first_job c.args.peer c.args.core.now) c.in-Copy.from c.in-Copy.number (sym first ∙ ap (λ (j : Job). Some j) c.in-Copy.is) is)
+
+pub returns-in-Append-clause-emptied : goal.returns-in-Append-clause-emptied
+returns-in-Append-clause-emptied g c = λ is.
+    let first : Some c.in-Some.job.now ≡ first_job c.args.peer c.args.core.now = first_of (search rules, grind (arith, common_steps)) in
+    absurd (usual_not (first_job c.args.peer c.args.core.now) c.in-Some.job.now job.Reset (sym first) (usual_own c.in-Some.job.now c.in-Append.is) is refl)
+
+-- of a copying step
+
+pub returns-in_default-clause-copied : goal.returns-in_default-clause-copied
+returns-in_default-clause-copied g c = λ told from number is list waiting entry has found. tt
+
+pub returns-in-Reset-clause-copied : goal.returns-in-Reset-clause-copied
+returns-in-Reset-clause-copied g c = λ told from number is list waiting entry has found.
+    let first : Some c.in-Some.job.now ≡ first_job c.args.peer c.args.core.now = first_of (search rules, grind (arith, common_steps)) in
+    absurd (copy_not_reset (first_job c.args.peer c.args.core.now) from number is (sym first ∙ ap (λ (j : Job). Some j) c.in-Reset.is))
+
+pub returns-in-Copy-clause-copied : goal.returns-in-Copy-clause-copied
+returns-in-Copy-clause-copied g c = λ told from number is list waiting entry has found.
+    let f : g.row.D.Denot → DiskSeen = λ disk. seen_as (g.D.Disk.size disk) (g.D.Disk.stands disk) (g.D.Disk.faults disk) in
+    let first : Some c.in-Some.job.now ≡ first_job c.args.peer c.args.core.now = first_of (search rules, grind (arith, common_steps)) in
+    let same = copy_same (first_job c.args.peer c.args.core.now) from number c.in-Copy.from c.in-Copy.number is (sym first ∙ ap (λ (j : Job). Some j) c.in-Copy.is) in
+    told_paid_result c.args.core.now c.args.peer c.do_copy.result (map f c.args.disks.now) (map f c.do_copy.new.disks)
+    (c.do_copy.ensures.read told list waiting entry
+    (subst (λ k. (keeping : Keeping) → log_at c.args.logs.now.items k ≡ Some keeping → IsKept keeping ((disk_at (stands_of (map f c.args.disks.now)) k).seen keeping.log.side) list waiting) same.0 has)
+    (ap (λ n. numbered_entry list n) (sym same.1) ∙ found))
+
+pub returns-in-Append-clause-copied : goal.returns-in-Append-clause-copied
+returns-in-Append-clause-copied g c = λ told from number is list waiting entry has found.
+    let first : Some c.in-Some.job.now ≡ first_job c.args.peer c.args.core.now = first_of (search rules, grind (arith, common_steps)) in
+    absurd (usual_not (first_job c.args.peer c.args.core.now) c.in-Some.job.now (job.Copy from number) (sym first) (usual_own c.in-Some.job.now c.in-Append.is) is refl)
 
 pub returns-in_default-clause-reads : goal.returns-in_default-clause-reads
 returns-in_default-clause-reads g c = λ told own list waiting has j at. tt

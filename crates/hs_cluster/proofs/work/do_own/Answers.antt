@@ -21,12 +21,12 @@ pub returns-in_ok-append_entry-in-Append-clause-leaves : goal.returns-in_ok-appe
 returns-in_ok-append_entry-in-Append-clause-leaves g c = λ told last list waiting has.
     leaves_ok _ c.args.job.now _ list waiting (done.Stored c.in-Append.number) c.append_entry.new.log c.in-Append.is refl refl
     (first_of_two c.args.watch.now c.append_entry.new.watch (g.D.Disk.stands c.args.disk.now) (g.D.Disk.stands c.append_entry.new.disk) list (list_after c.args.job.now list waiting) (c.append_entry.ensures.any_moment told last list waiting has))
-    (c.in_ok-append_entry-in-Append.ensures.list told last list waiting has) tt
+    (c.in_ok-append_entry-in-Append.ensures.list told last list waiting has)
 
 pub returns-in-Read-clause-leaves : goal.returns-in-Read-clause-leaves
 returns-in-Read-clause-leaves g c = λ told last list waiting has.
     leaves_read c.args.watch.now c.in-Read.number c.args.log.now (g.D.Disk.stands c.args.disk.now) (g.D.Disk.stands c.read_block.new.disk) c.args.job.now list waiting c.read_block.result c.in-Read.is (c.read_block.ensures.same told) last
-    (g.met.D.Disk.since told c.args.disk.now) has c.read_block.ensures.done (c.read_block.ensures.told told list waiting has.kept)
+    (g.met.D.Disk.since told c.args.disk.now) has c.read_block.ensures.done
 
 pub returns-in-Copy-clause-leaves : goal.returns-in-Copy-clause-leaves
 returns-in-Copy-clause-leaves g c = λ told last list waiting has.
@@ -36,7 +36,7 @@ returns-in-Copy-clause-leaves g c = λ told last list waiting has.
 pub returns-in-Reclaim-clause-leaves : goal.returns-in-Reclaim-clause-leaves
 returns-in-Reclaim-clause-leaves g c = λ told last list waiting has.
     leaves_ok _ c.args.job.now job.Reclaim list waiting (done.Stepped true) c.args.log.now c.in-Reclaim.is refl refl
-    (stays_one (g.D.Disk.stands c.args.disk.now) c.args.watch.now list (list_after c.args.job.now list waiting) last (g.met.D.Disk.since told c.args.disk.now) has.leaves) has tt
+    (stays_one (g.D.Disk.stands c.args.disk.now) c.args.watch.now list (list_after c.args.job.now list waiting) last (g.met.D.Disk.since told c.args.disk.now) has.leaves) has
 
 pub returns-in-Read-clause-refused : goal.returns-in-Read-clause-refused
 returns-in-Read-clause-refused g c = λ at only. absurd (read_only at c.in-Read.number c.args.job.now c.in-Read.is only)

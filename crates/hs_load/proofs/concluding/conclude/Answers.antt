@@ -76,7 +76,7 @@ returns-clause-ends g c = λ load book named writers core so.
     let end : Stand = record { now = c.finish-did.new.watch; cluster = c.finish-did.new.cluster; disks = map seen news; line = c.finish-did.ensures.runs.0 } in
     let runs : RunsLast g.D.Disk.tells load book team left new last c.finish-did.result
     = runs_last g.D.Disk.tells load book team left new last c.finish-did.result (g.A.Addresser.name c.args.naming.now) c.args.watch.now c.last_line-line.result c.resume-cluster.result (map seen c.as_mut_slice.result.now) end c.finish-did.ensures.runs.1
-    named (c.resume-cluster.ensures ∙ (λ i. record { core = core i; logs = team.logs; course = [] })) (ap (λ xs. map seen xs) c.as_mut_slice.ensures.value) (c.last_line-line.ensures ∙ ap (λ (k : Core). k.progress.last_line) core)
+    named (c.resume-cluster.ensures ∙ (λ i. record { core = core i; logs = team.logs; course = []; cache = None })) (ap (λ xs. map seen xs) c.as_mut_slice.ensures.value) (c.last_line-line.ensures ∙ ap (λ (k : Core). k.progress.last_line) core)
     c.into_parts-core.ensures.core (ap (λ xs. map seen xs) back) in (
       last,
       c.outcome_of-2.ensures.journal,

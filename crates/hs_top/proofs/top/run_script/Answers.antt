@@ -28,14 +28,12 @@ returns g c =
       notes_never = c.each_note_has_its_cause.ensures.never;
       stored = c.what_is_read_is_sealed.ensures.opens;
       settles = c.each_settle_settles.ensures;
-      valid = c.a_run_is_answered.ensures.valid;
-      whole = c.a_full_journal_deletes_as_promised.ensures.went;
-      whole_ended = c.a_full_journal_deletes_as_promised.ensures.ended;
-      whole_never = c.a_full_journal_deletes_as_promised.ensures.never;
-      led = c.shard_0_is_led_by_lines.ensures.went;
-      led_ended = c.shard_0_is_led_by_lines.ensures.ended;
-      led_never = c.shard_0_is_led_by_lines.ensures.never;
+      room = c.a_run_with_room_is_not_full.ensures.soundly;
+      room_ended = c.a_run_with_room_is_not_full.ensures.ended;
+      room_never = c.a_run_with_room_is_not_full.ensures.never;
       ends_well = c.a_calm_run_ends_well.ensures;
+      rises = c.each_rise_is_told.ensures.went;
+      rises_never = c.each_rise_is_told.ensures.never;
     } in
     let ran = c.run_script_on.ensures.ran in
     record {

@@ -26,7 +26,7 @@ returns-clause-runs g c = λ disks.
     let op = c.in_ok-op.ensures.ok ∙ ap (λ (r : Running). addressed name r.core.sessions c.args.op) c.self.view_is in
     runs_quiet name c.args.line (command.Client c.args.op) (command.Client c.args.op) c.args.moment old c.step.new.self disks c.step.result e refl
     (subst (λ o. BeginsWith at e (λ core. None) → BeginsWith at (event.Line c.args.line o) (λ core. None)) op (λ h. h)) refl c.requires.going c.step.ensures.does
-    (λ p keeping at. subst (λ l. log_at l p ≡ Some keeping) c.step.ensures.logs at) (λ p. inl (ap (λ l. log_at l p) c.step.ensures.logs))
+    (λ p keeping at. subst (λ l. log_at l p ≡ Some keeping) c.step.ensures.logs at) (λ p. inl (ap (λ l. log_at l p) c.step.ensures.logs)) c.step.ensures.cache
 
 pub returns-in_err-op-clause-runs : goal.returns-in_err-op-clause-runs
 returns-in_err-op-clause-runs g c = λ disks.

@@ -20,7 +20,7 @@ returns-clause-begins g c =
     (falls_within span.old span.new (λ peer low. c.read_store.ensures.counted peer (subst (λ n. peer < n) (length-map c.args.disks.now f) low)))
     (λ told peer found low refused. c.in-Ok.ensures.own told peer found (subst (λ n. peer < n) (length-map c.args.disks.now f) low) refused)
     c.in-Ok.ensures.heads (λ peer low. c.read_store.ensures.headed peer (subst (λ n. peer < n) (length-map c.args.disks.now f) low))
-    c.begun.ensures.logs c.begun.ensures.core c.begun.ensures.course
+    c.begun.ensures.logs c.begun.ensures.core c.begun.ensures.course c.begun.ensures.uncached
 
 pub returns-clause-closed : goal.returns-clause-closed
 returns-clause-closed g c = closed_memory _ _ _ _ _ c.begun.ensures.only

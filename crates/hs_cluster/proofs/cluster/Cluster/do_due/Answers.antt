@@ -22,7 +22,7 @@ returns-in-Handling-clause-does g c =
     let r = c.step.result in
     let e : Event = event.Deliver c.args.line c.in-Handling.message in
     let does : Does (done_of r (e, c.args.watch.now)) old new r = subst (λ k. Does (done_of r (e, k)) old new r) c.now.ensures.value c.step.ensures.does in
-    let shows = any_shows g.D.Disk.tells (record { before = c.args.watch.now; now = c.args.watch.now; old = old; new = new; disks = map f c.args.disks.now; left = map f c.args.disks.now }) r (done_of r (e, c.args.watch.now)) (quiet_shows e c.args.watch.now old new (map f c.args.disks.now) r refl c.requires.going does (λ p keeping at. subst (λ l. log_at l p ≡ Some keeping) c.step.ensures.logs at) (λ p. inl (ap (λ l. log_at l p) c.step.ensures.logs))) in
+    let shows = any_shows g.D.Disk.tells (record { before = c.args.watch.now; now = c.args.watch.now; old = old; new = new; disks = map f c.args.disks.now; left = map f c.args.disks.now }) r (done_of r (e, c.args.watch.now)) (quiet_shows e c.args.watch.now old new (map f c.args.disks.now) r refl c.requires.going does (λ p keeping at. subst (λ l. log_at l p ≡ Some keeping) c.step.ensures.logs at) (λ p. inl (ap (λ l. log_at l p) c.step.ensures.logs)) c.step.ensures.cache) in
     event_due c.args.line c.args.due c.args.watch.now c.args.watch.now old new e c.args.watch.now r _
     (deliver_of c.args.line old.core c.args.due _ c.in-Handling.message c.in-Handling.is) (omega arith) (omega arith) does shows
 
@@ -34,7 +34,7 @@ returns-in-Nudging-clause-does g c =
     let r = c.step-in-Nudging.result in
     let e : Event = event.Nudge c.args.line c.in-Nudging.peer in
     let does : Does (done_of r (e, c.args.watch.now)) old new r = subst (λ k. Does (done_of r (e, k)) old new r) c.now-in-Nudging.ensures.value c.step-in-Nudging.ensures.does in
-    let shows = any_shows g.D.Disk.tells (record { before = c.args.watch.now; now = c.args.watch.now; old = old; new = new; disks = map f c.args.disks.now; left = map f c.args.disks.now }) r (done_of r (e, c.args.watch.now)) (quiet_shows e c.args.watch.now old new (map f c.args.disks.now) r refl c.requires.going does (λ p keeping at. subst (λ l. log_at l p ≡ Some keeping) c.step-in-Nudging.ensures.logs at) (λ p. inl (ap (λ l. log_at l p) c.step-in-Nudging.ensures.logs))) in
+    let shows = any_shows g.D.Disk.tells (record { before = c.args.watch.now; now = c.args.watch.now; old = old; new = new; disks = map f c.args.disks.now; left = map f c.args.disks.now }) r (done_of r (e, c.args.watch.now)) (quiet_shows e c.args.watch.now old new (map f c.args.disks.now) r refl c.requires.going does (λ p keeping at. subst (λ l. log_at l p ≡ Some keeping) c.step-in-Nudging.ensures.logs at) (λ p. inl (ap (λ l. log_at l p) c.step-in-Nudging.ensures.logs)) c.step-in-Nudging.ensures.cache) in
     event_due c.args.line c.args.due c.args.watch.now c.args.watch.now old new e c.args.watch.now r _
     (nudge_of c.args.line old.core c.args.due c.in-Nudging.peer c.in-Nudging.is) (omega arith) (omega arith) does shows
 

@@ -27,7 +27,7 @@ returns-in_err-step-clause-runs c = λ name disks.
     subst (λ r. RunsLine name c.args.line (command.Fail c.args.peer) now now old new r (Shows ⊤ (record { before = now; now = now; old = old; new = new; disks = disks; left = disks }) r))
     (sym (p.1 ∙ ap (λ (x : ClusterFault). Err x) p.2))
     (runs_quiet name c.args.line (command.Fail c.args.peer) (command.Fail c.args.peer) now old new disks (Err fault) e refl (λ h. h) refl c.requires.going c.in_err-step.ensures.does
-    (λ p keeping at. subst (λ l. log_at l p ≡ Some keeping) c.step.ensures.logs at) (λ p. inl (ap (λ l. log_at l p) c.step.ensures.logs)))
+    (λ p keeping at. subst (λ l. log_at l p ≡ Some keeping) c.step.ensures.logs at) (λ p. inl (ap (λ l. log_at l p) c.step.ensures.logs)) c.step.ensures.cache)
 
 pub returns-clause-runs : goal.returns-clause-runs
 returns-clause-runs c = λ name disks.
@@ -42,7 +42,7 @@ returns-clause-runs c = λ name disks.
     (λ p. elim (cases_eq p c.args.peer) [
       | inl same ↦ inr (c.args.line, ap (λ q. event.Fail c.args.line q) (sym same))
       | inr differs ↦ inl (c.put_out.ensures.others p differs ∙ ap (λ l. log_at l p) c.step.ensures.logs)
-    ])
+    ]) (c.put_out.ensures.cache ∙ c.step.ensures.cache)
 
 pub returns-clause-joins : goal.returns-clause-joins
 returns-clause-joins c = λ p apart. subst (λ (core : Core). is_joining (status_of p core) ≡ false) (sym c.put_out.ensures.core) (c.in_ok-step.ensures.joins p refl apart)

@@ -23,7 +23,7 @@ returns-in-Nudge-clause-runs g c = λ going served.
     let does = subst (λ k. Does (done_of c.step.result (e, k)) c.args.self.now c.step.new.self c.step.result) c.now-moment.ensures.value c.step.ensures.does in
     runs_any g.D.Disk.tells name c.args.line c.args.command c.args.watch.now c.args.watch.now c.args.self.now c.step.new.self _ c.step.result
     (runs_quiet name c.args.line c.args.command (command.Nudge c.in-Nudge.peer) c.args.watch.now c.args.self.now c.step.new.self (map f c.args.disks.now) c.step.result e c.in-Nudge.is (λ h. h) refl going does
-    (λ p keeping at. subst (λ l. log_at l p ≡ Some keeping) c.step.ensures.logs at) (λ p. inl (ap (λ l. log_at l p) c.step.ensures.logs)))
+    (λ p keeping at. subst (λ l. log_at l p ≡ Some keeping) c.step.ensures.logs at) (λ p. inl (ap (λ l. log_at l p) c.step.ensures.logs)) c.step.ensures.cache)
 
 pub returns-in-Deliver-clause-runs : goal.returns-in-Deliver-clause-runs
 returns-in-Deliver-clause-runs g c = λ going served.
@@ -33,7 +33,7 @@ returns-in-Deliver-clause-runs g c = λ going served.
     let does = subst (λ k. Does (done_of c.step-in-Deliver.result (e, k)) c.args.self.now c.step-in-Deliver.new.self c.step-in-Deliver.result) c.now-moment.ensures.value c.step-in-Deliver.ensures.does in
     runs_any g.D.Disk.tells name c.args.line c.args.command c.args.watch.now c.args.watch.now c.args.self.now c.step-in-Deliver.new.self _ c.step-in-Deliver.result
     (runs_quiet name c.args.line c.args.command (command.Deliver c.in-Deliver.message) c.args.watch.now c.args.self.now c.step-in-Deliver.new.self (map f c.args.disks.now) c.step-in-Deliver.result e c.in-Deliver.is (λ h. h) refl going does
-    (λ p keeping at. subst (λ l. log_at l p ≡ Some keeping) c.step-in-Deliver.ensures.logs at) (λ p. inl (ap (λ l. log_at l p) c.step-in-Deliver.ensures.logs)))
+    (λ p keeping at. subst (λ l. log_at l p ≡ Some keeping) c.step-in-Deliver.ensures.logs at) (λ p. inl (ap (λ l. log_at l p) c.step-in-Deliver.ensures.logs)) c.step-in-Deliver.ensures.cache)
 
 pub returns-in-Lose-clause-runs : goal.returns-in-Lose-clause-runs
 returns-in-Lose-clause-runs g c = λ going served.
@@ -43,7 +43,7 @@ returns-in-Lose-clause-runs g c = λ going served.
     let does = subst (λ k. Does (done_of c.step-in-Lose.result (e, k)) c.args.self.now c.step-in-Lose.new.self c.step-in-Lose.result) c.now-moment.ensures.value c.step-in-Lose.ensures.does in
     runs_any g.D.Disk.tells name c.args.line c.args.command c.args.watch.now c.args.watch.now c.args.self.now c.step-in-Lose.new.self _ c.step-in-Lose.result
     (runs_quiet name c.args.line c.args.command (command.Lose c.in-Lose.message) c.args.watch.now c.args.self.now c.step-in-Lose.new.self (map f c.args.disks.now) c.step-in-Lose.result e c.in-Lose.is (λ h. h) refl going does
-    (λ p keeping at. subst (λ l. log_at l p ≡ Some keeping) c.step-in-Lose.ensures.logs at) (λ p. inl (ap (λ l. log_at l p) c.step-in-Lose.ensures.logs)))
+    (λ p keeping at. subst (λ l. log_at l p ≡ Some keeping) c.step-in-Lose.ensures.logs at) (λ p. inl (ap (λ l. log_at l p) c.step-in-Lose.ensures.logs)) c.step-in-Lose.ensures.cache)
 
 pub returns-in-Repeat-clause-runs : goal.returns-in-Repeat-clause-runs
 returns-in-Repeat-clause-runs g c = λ going served.
@@ -53,7 +53,7 @@ returns-in-Repeat-clause-runs g c = λ going served.
     let does = subst (λ k. Does (done_of c.step-in-Repeat.result (e, k)) c.args.self.now c.step-in-Repeat.new.self c.step-in-Repeat.result) c.now-moment.ensures.value c.step-in-Repeat.ensures.does in
     runs_any g.D.Disk.tells name c.args.line c.args.command c.args.watch.now c.args.watch.now c.args.self.now c.step-in-Repeat.new.self _ c.step-in-Repeat.result
     (runs_quiet name c.args.line c.args.command (command.Repeat c.in-Repeat.message) c.args.watch.now c.args.self.now c.step-in-Repeat.new.self (map f c.args.disks.now) c.step-in-Repeat.result e c.in-Repeat.is (λ h. h) refl going does
-    (λ p keeping at. subst (λ l. log_at l p ≡ Some keeping) c.step-in-Repeat.ensures.logs at) (λ p. inl (ap (λ l. log_at l p) c.step-in-Repeat.ensures.logs)))
+    (λ p keeping at. subst (λ l. log_at l p ≡ Some keeping) c.step-in-Repeat.ensures.logs at) (λ p. inl (ap (λ l. log_at l p) c.step-in-Repeat.ensures.logs)) c.step-in-Repeat.ensures.cache)
 
 pub returns-in-Start-clause-runs : goal.returns-in-Start-clause-runs
 returns-in-Start-clause-runs g c = λ going served.
@@ -63,7 +63,7 @@ returns-in-Start-clause-runs g c = λ going served.
     let does = subst (λ k. Does (done_of c.step-in-Start.result (e, k)) c.args.self.now c.step-in-Start.new.self c.step-in-Start.result) c.now-moment.ensures.value c.step-in-Start.ensures.does in
     runs_any g.D.Disk.tells name c.args.line c.args.command c.args.watch.now c.args.watch.now c.args.self.now c.step-in-Start.new.self _ c.step-in-Start.result
     (runs_quiet name c.args.line c.args.command (command.Start c.in-Start.peer) c.args.watch.now c.args.self.now c.step-in-Start.new.self (map f c.args.disks.now) c.step-in-Start.result e c.in-Start.is (λ h. h) refl going does
-    (λ p keeping at. subst (λ l. log_at l p ≡ Some keeping) c.step-in-Start.ensures.logs at) (λ p. inl (ap (λ l. log_at l p) c.step-in-Start.ensures.logs)))
+    (λ p keeping at. subst (λ l. log_at l p ≡ Some keeping) c.step-in-Start.ensures.logs at) (λ p. inl (ap (λ l. log_at l p) c.step-in-Start.ensures.logs)) c.step-in-Start.ensures.cache)
 
 pub returns-in-Settle-clause-runs : goal.returns-in-Settle-clause-runs
 returns-in-Settle-clause-runs g c = λ going served.

@@ -28,8 +28,8 @@ returns-in-Ok-clause-does c =
     let same : c.shape-shape.result ≡ new.members.shape = c.shape-shape.ensures.value ∙ shape in
     let goods = c.in_ok-goods.ensures ∙ ap (λ (s : Shape). map (λ peer. is_good_status (status_of peer old)) (range_with_len 0 (s.shards * s.copies))) same in
     let fronts = c.in_ok-fronts.ensures ∙ ap (λ (s : Shape). map (λ shard. front_of shard old) (range_with_len 0 s.shards)) same in
-    subst (λ (o : Running). Does ((c.args.event, c.args.moment) ∷ []) o (record { core = new; logs = c.self.inside.logs.items; course = c.note_event.new.course.items }) (Ok tt)) c.self.view_is
-    (event_done c.args.event c.args.moment (record { core = old; logs = c.self.inside.logs.items; course = c.self.inside.course.items }) (record { core = new; logs = c.self.inside.logs.items; course = c.note_event.new.course.items }) c.begun_line-line.result (Ok tt) is c.begun_line-line.ensures
+    subst (λ (o : Running). Does ((c.args.event, c.args.moment) ∷ []) o (record { core = new; logs = c.self.inside.logs.items; course = c.note_event.new.course.items; cache = c.self.inside.cache }) (Ok tt)) c.self.view_is
+    (event_done c.args.event c.args.moment (record { core = old; logs = c.self.inside.logs.items; course = c.self.inside.course.items; cache = c.self.inside.cache }) (record { core = new; logs = c.self.inside.logs.items; course = c.note_event.new.course.items; cache = c.self.inside.cache }) c.begun_line-line.result (Ok tt) is c.begun_line-line.ensures
     (c.note_event.ensures.items old shape goods fronts ∙ ap (λ (xs : List CourseItem). xs ++ items_between c.begun_line-line.result old new c.args.moment) c.in_ok-reserve.ensures.items)
     (ap is_refused (ok_goes new c.in-Ok.field-0 c.in-Ok.ensures.steps.outcome)) (ap outcome_by (sym (ok_goes new c.in-Ok.field-0 c.in-Ok.ensures.steps.outcome))) refl (λ going. c.in-Ok.ensures.room))
 
@@ -39,8 +39,8 @@ returns-in-Err-OpsFull-clause-does c =
     let new = c.step.new.self in
     let steps = rw c.in-Err-OpsFull.field-0-is at c.in-Err-OpsFull.ensures.steps in
     let is : new ≡ step c.args.event c.args.moment old = steps.done refl in
-    subst (λ (o : Running). Does ((c.args.event, c.args.moment) ∷ []) o (record { core = new; logs = c.self.inside.logs.items; course = c.reserve.new.self.items }) (Err cluster.OpsFull)) c.self.view_is
-    (event_refused c.args.event c.args.moment (record { core = old; logs = c.self.inside.logs.items; course = c.self.inside.course.items }) (record { core = new; logs = c.self.inside.logs.items; course = c.reserve.new.self.items }) is c.in_ok-reserve.ensures.items (err_ends new core.OpsFull steps.outcome))
+    subst (λ (o : Running). Does ((c.args.event, c.args.moment) ∷ []) o (record { core = new; logs = c.self.inside.logs.items; course = c.reserve.new.self.items; cache = c.self.inside.cache }) (Err cluster.OpsFull)) c.self.view_is
+    (event_refused c.args.event c.args.moment (record { core = old; logs = c.self.inside.logs.items; course = c.self.inside.course.items; cache = c.self.inside.cache }) (record { core = new; logs = c.self.inside.logs.items; course = c.reserve.new.self.items; cache = c.self.inside.cache }) is c.in_ok-reserve.ensures.items (err_ends new core.OpsFull steps.outcome))
 
 pub returns-in-Err-ShardLost-clause-does : goal.returns-in-Err-ShardLost-clause-does
 returns-in-Err-ShardLost-clause-does c =
@@ -53,8 +53,8 @@ returns-in-Err-ShardLost-clause-does c =
     let same : c.shape-shape.result ≡ new.members.shape = c.shape-shape.ensures.value ∙ shape in
     let goods = c.in_ok-goods.ensures ∙ ap (λ (s : Shape). map (λ peer. is_good_status (status_of peer old)) (range_with_len 0 (s.shards * s.copies))) same in
     let fronts = c.in_ok-fronts.ensures ∙ ap (λ (s : Shape). map (λ shard. front_of shard old) (range_with_len 0 s.shards)) same in
-    subst (λ (o : Running). Does ((c.args.event, c.args.moment) ∷ []) o (record { core = new; logs = c.self.inside.logs.items; course = c.note_event-in-Err-ShardLost.new.course.items }) (Err (cluster.ShardLost c.in-Err-ShardLost.shard))) c.self.view_is
-    (event_done c.args.event c.args.moment (record { core = old; logs = c.self.inside.logs.items; course = c.self.inside.course.items }) (record { core = new; logs = c.self.inside.logs.items; course = c.note_event-in-Err-ShardLost.new.course.items }) c.begun_line-line.result (Err (cluster.ShardLost c.in-Err-ShardLost.shard)) is c.begun_line-line.ensures
+    subst (λ (o : Running). Does ((c.args.event, c.args.moment) ∷ []) o (record { core = new; logs = c.self.inside.logs.items; course = c.note_event-in-Err-ShardLost.new.course.items; cache = c.self.inside.cache }) (Err (cluster.ShardLost c.in-Err-ShardLost.shard))) c.self.view_is
+    (event_done c.args.event c.args.moment (record { core = old; logs = c.self.inside.logs.items; course = c.self.inside.course.items; cache = c.self.inside.cache }) (record { core = new; logs = c.self.inside.logs.items; course = c.note_event-in-Err-ShardLost.new.course.items; cache = c.self.inside.cache }) c.begun_line-line.result (Err (cluster.ShardLost c.in-Err-ShardLost.shard)) is c.begun_line-line.ensures
     (c.note_event-in-Err-ShardLost.ensures.items old shape goods fronts ∙ ap (λ (xs : List CourseItem). xs ++ items_between c.begun_line-line.result old new c.args.moment) c.in_ok-reserve.ensures.items)
     (ap is_refused (err_ends new (core.ShardLost c.in-Err-ShardLost.shard) steps.outcome)) (ap outcome_by (sym (err_ends new (core.ShardLost c.in-Err-ShardLost.shard) steps.outcome))) refl
     (room_ended new (core.ShardLost c.in-Err-ShardLost.shard) (err_ends new (core.ShardLost c.in-Err-ShardLost.shard) steps.outcome)))

@@ -33,7 +33,7 @@ returns-in_err-step-clause-runs g c = λ name.
     subst (λ r. RunsLine name c.args.line (command.Turn c.args.peer) start start old new r (Shows g.D.Disk.tells (record { before = start; now = start; old = old; new = new; disks = map f c.args.disks.now; left = map f c.args.disks.now }) r))
     (sym (p.1 ∙ ap (λ (x : ClusterFault). Err x) p.2))
     (runs_turn_cut name c.args.line c.args.peer start start start old new fault _ (omega arith) (omega arith) does
-    (any_shows g.D.Disk.tells (record { before = start; now = start; old = old; new = new; disks = map f c.args.disks.now; left = map f c.args.disks.now }) (Err fault) (done_of (Err fault) (e, start)) (quiet_shows e start old new (map f c.args.disks.now) (Err fault) refl c.requires.going does (λ p keeping at. subst (λ l. log_at l p ≡ Some keeping) c.step.ensures.logs at) (λ p. inl (ap (λ l. log_at l p) c.step.ensures.logs)))))
+    (any_shows g.D.Disk.tells (record { before = start; now = start; old = old; new = new; disks = map f c.args.disks.now; left = map f c.args.disks.now }) (Err fault) (done_of (Err fault) (e, start)) (quiet_shows e start old new (map f c.args.disks.now) (Err fault) refl c.requires.going does (λ p keeping at. subst (λ l. log_at l p ≡ Some keeping) c.step.ensures.logs at) (λ p. inl (ap (λ l. log_at l p) c.step.ensures.logs)) c.step.ensures.cache)))
 
 pub returns-in-Some-clause-runs : goal.returns-in-Some-clause-runs
 returns-in-Some-clause-runs g c = λ name.
@@ -46,7 +46,7 @@ returns-in-Some-clause-runs g c = λ name.
     let e : Event = event.Turn c.args.line c.args.peer in
     let first : Does ((e, start) ∷ []) old mid (Ok tt) = subst (λ k. Does ((e, k) ∷ []) old mid (Ok tt)) c.now.ensures.value c.in_ok-step.ensures.does in
     let is : turn_behind c.args.peer mid.core ≡ Some c.in-Some.due = ap (λ (r : Running). turn_behind c.args.peer r.core) (sym c.self.view_is) ∙ sym c.turn_behind.ensures.value ∙ c.in-Some.is in
-    let one = any_shows g.D.Disk.tells _ (Ok tt) _ (quiet_shows e start old mid (map f c.args.disks.now) (Ok tt) refl c.requires.going first (λ p keeping at. subst (λ l. log_at l p ≡ Some keeping) c.step.ensures.logs at) (λ p. inl (ap (λ l. log_at l p) c.step.ensures.logs))) in
+    let one = any_shows g.D.Disk.tells _ (Ok tt) _ (quiet_shows e start old mid (map f c.args.disks.now) (Ok tt) refl c.requires.going first (λ p keeping at. subst (λ l. log_at l p ≡ Some keeping) c.step.ensures.logs at) (λ p. inl (ap (λ l. log_at l p) c.step.ensures.logs)) c.step.ensures.cache) in
     runs_turn name c.args.line c.args.peer start c.do_due.new.watch start old mid new c.in-Some.due r _ _ (omega arith) first is c.do_due.ensures.does
     (λ fs rise on. shows_then g.D.Disk.tells start start c.do_due.new.watch old mid new (map f c.args.disks.now) (map f c.args.disks.now) (map f c.do_due.new.disks) r ((e, start) ∷ []) fs first (omega arith, omega arith) rise one on)
 
@@ -60,7 +60,7 @@ returns-in-None-clause-runs g c = λ name.
     let first : Does ((e, start) ∷ []) old new (Ok tt) = subst (λ k. Does ((e, k) ∷ []) old new (Ok tt)) c.now.ensures.value c.in_ok-step.ensures.does in
     runs_turn_alone name c.args.line c.args.peer start start start old new _ (omega arith) (omega arith) first
     (ap (λ (r : Running). turn_behind c.args.peer r.core) (sym c.self.view_is) ∙ sym c.turn_behind.ensures.value ∙ c.in-None.is)
-    (any_shows g.D.Disk.tells _ (Ok tt) _ (quiet_shows e start old new (map f c.args.disks.now) (Ok tt) refl c.requires.going first (λ p keeping at. subst (λ l. log_at l p ≡ Some keeping) c.step.ensures.logs at) (λ p. inl (ap (λ l. log_at l p) c.step.ensures.logs))))
+    (any_shows g.D.Disk.tells _ (Ok tt) _ (quiet_shows e start old new (map f c.args.disks.now) (Ok tt) refl c.requires.going first (λ p keeping at. subst (λ l. log_at l p ≡ Some keeping) c.step.ensures.logs at) (λ p. inl (ap (λ l. log_at l p) c.step.ensures.logs)) c.step.ensures.cache))
 
 pub returns-in_err-step-clause-beside : goal.returns-in_err-step-clause-beside
 returns-in_err-step-clause-beside g c =
