@@ -69,6 +69,12 @@ closed_scripted tells set old new (cluster.ShardLost shard) h = absurd h
 closed_scripted tells set old new cluster.OpsFull h = absurd h
 closed_scripted tells set old new cluster.NoMemory h = refl
 
+closed_past : (tells : Type 0) (set : Setting) (old new : List DiskSeen) (fault : ClusterFault) → IsClosed tells set.shape old new fault → (ending_of (status_of (Err (of_cluster fault)) 0)).past ≡ true → ⊥
+closed_past tells set old new (cluster.WrongShape peer found) h past = false≢true past
+closed_past tells set old new (cluster.ShardLost shard) h past = h
+closed_past tells set old new cluster.OpsFull h past = h
+closed_past tells set old new cluster.NoMemory h past = false≢true past
+
 closed_ended : (tells : Type 0) (set : Setting) (old new : List DiskSeen) (fault : ClusterFault) (lines : List (List ℕ)) (rest : List ℕ) → IsClosed tells set.shape old new fault → HasEnded (status_of (Err (of_cluster fault)) 0) lines 0 [] rest
 closed_ended tells set old new (cluster.WrongShape peer found) lines rest h = (refl, refl)
 closed_ended tells set old new (cluster.ShardLost shard) lines rest h = absurd h

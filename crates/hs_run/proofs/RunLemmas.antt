@@ -52,7 +52,7 @@ use Rattle.hs_run.proofs.OpeningLemmas.{opening_printed, opening_so_far}
 use Rattle.hs_run.proofs.PassedLemmas.{answered_more, put_so_far, put_whole}
 use Rattle.hs_run.proofs.ReadLemmas.{read_untold}
 use Rattle.hs_run.proofs.ShownLemmas.{later_shown, within_shown, within_untold}
-use Rattle.hs_run.proofs.WentLemmas.{IsPlain, went_between, went_unopened, went_within}
+use Rattle.hs_run.proofs.WentLemmas.{IsPlain, past_within, went_between, went_unopened, went_within}
 use Rattle.hs_run.proofs.WrittenLemmas.{first_going, longer, none_some, put_failed, snoc_is, snoc_some, write_stop}
 
 -- ---- the commands of a script, or those of the lines that were read
@@ -181,8 +181,8 @@ module _ (tells : Type 0) (name : List ℕ → Address) (did : Result ⊤ Cluste
               (subst (λ (d : List DiskSeen). StandUntold b.set b.found b.opening b.disks d) (sym left)
               (opened.untold (told_out did put.put part.new.line put.only (ap (λ (r : Result ⊤ Stop). (ending_of (status_of r part.new.line)).short) (sym put.ended) ∙ whole)))))
               shown;
-          rests = λ past. absurd (within_past part.result part.new.line
-              (opening_within did part.old.cluster (record { before = part.old.now; now = part.new.now; old = part.old.got; new = part.new.got }) part.result opened.outcome cut put) past);
+          rests = λ past. absurd (true≢false (sym past ∙ past_within part.result part.new.line
+              (opening_within did part.old.cluster (record { before = part.old.now; now = part.new.now; old = part.old.got; new = part.new.got }) part.result opened.outcome cut put)));
           ended = record {
             written = λ is front es there. absurd (snoc_some front es there);
             answered = λ is none.
@@ -225,7 +225,7 @@ module _ (tells : Type 0) (name : List ℕ → Address) (did : Result ⊤ Cluste
               (λ whole. within_untold tells name b read lines at part.new asked part.result gone runs shows
               (told_out runs.did runs.put part.new.line runs.only (ap (λ (r : Result ⊤ Stop). (ending_of (status_of r part.new.line)).short) (sym runs.ended) ∙ whole)))
               shown;
-          rests = λ past. absurd (within_past part.result part.new.line (within_of tells name asked (record { old = at; new = part.new; result = part.result }) cut runs) past);
+          rests = λ past. absurd (true≢false (sym past ∙ past_within part.result part.new.line (within_of tells name asked (record { old = at; new = part.new; result = part.result }) cut runs)));
           ended = record {
             written = λ is front es there.
                 let failed : runs.put ≡ Err stop.WriteFault = put_failed runs.did runs.put part.new.line (ap (λ (r : Result ⊤ Stop). status_of r part.new.line) (sym runs.ended) ∙ is) in

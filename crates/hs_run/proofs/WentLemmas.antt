@@ -108,7 +108,7 @@ ends_within : (did : Result ⊤ ClusterFault) (put : Result ⊤ Stop) (ended : O
 ends_within did (Ok x) ended line told only cut = did_ends did x ended line told cut
 ends_within did (Err halt) ended line told only cut = put_ends halt ended line only
 
-past_within : (result : Result ⊤ Stop) (line : ℕ) → IsWithin result → (ending_of (status_of result line)).past ≡ false
+pub past_within : (result : Result ⊤ Stop) (line : ℕ) → IsWithin result → (ending_of (status_of result line)).past ≡ false
 past_within (Ok x) line h = absurd h
 past_within (Err (stop.WrongShape peer found)) line h = absurd h
 past_within (Err (stop.ShardLost shard)) line h = refl
