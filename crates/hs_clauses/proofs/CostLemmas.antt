@@ -1,5 +1,5 @@
 -- With any number of copies reads too cost what the reports of a run tell of failed calls, where it opens over sound lists: what is to be read stands in them.
-use Rattle.std.proofs.Common.{◌≡◌, inl, inr, ap, ℕ, ◌≤◌, List, None, arith}
+use Rattle.std.proofs.Common.{◌≡◌, inl, inr, ap, None, arith}
 use Rattle.hs_clauses.proofs.InStepReadLemmas.{in_step_all_stored}
 use Rattle.hs_clauses.proofs.OpenLemmas.{first_numbered}
 use Rattle.hs_clauses.proofs.SealedLemmas.{all_stored}

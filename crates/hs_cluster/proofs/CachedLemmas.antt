@@ -11,7 +11,7 @@ use Rattle.hs_cluster.specs.Cached.{AreBlocks, AreCached, HasEffect, KeepsRead, 
 use Rattle.hs_cluster.specs.Kept.{sealed_front}
 use Rattle.hs_core_words.specs.declared.event.Event.{Event}
 use Rattle.hs_core_words.specs.declared.event.Event.TheVariants as event
-use Rattle.hs_core_words.specs.Looking.{first_job, front_of, home, lead_of}
+use Rattle.hs_core_words.specs.Looking.{first_job, front_of, home}
 use Rattle.hs_core_words.specs.State.{Core}
 use Rattle.hs_core_words.specs.Step.{step}
 use Rattle.hs_desk.specs.Answers.{answers}
@@ -19,7 +19,6 @@ use Rattle.hs_desk.specs.declared.done.Done.{Done}
 use Rattle.hs_desk.specs.declared.done.Done.TheVariants as done
 use Rattle.hs_desk.specs.declared.job.Job.{Job}
 use Rattle.hs_desk.specs.declared.job.Job.TheVariants as job
-use Rattle.hs_entry.specs.declared.entry.Entry.{Entry}
 use Rattle.hs_entry.specs.declared.entry.Entry.TheVariants as kind
 use Rattle.hs_events.specs.Asked.{report_in}
 use Rattle.hs_events.specs.Course.{is_refused}
@@ -186,9 +185,9 @@ module _ (c : Whole) (sane : IsSane c) where
         let low : IsShard c.core.members.shape shard = subst (λ (s : Shape). IsShard s shard) (shape_at c.core e now) low_now in
         let sane_now : IsSane new = sane_stays c e now sane going in
         let lists : new.lists shard ≡ c.lists shard ++ (longer shard).0 = sym (reach_sane new shard sane_now) ∙ (longer shard).1 ∙ ap (λ l. l ++ (longer shard).0) (reach_sane c shard sane) in
-        let then : in_effect new shard ≡ take (front_of shard new.core) (new.lists shard) = ap (effect_by new shard) (lead_here new.core shard sane_now.alone low_now) in
+        let behind : in_effect new shard ≡ take (front_of shard new.core) (new.lists shard) = ap (effect_by new shard) (lead_here new.core shard sane_now.alone low_now) in
         let more = front_more shard (front_of shard c.core) (front_of shard new.core) (c.lists shard) (longer shard).0 (rises_at c.core e now shard) (front_within shard low) in
-        (more.0, then ∙ ap (take (front_of shard new.core)) lists ∙ more.1 ∙ ap (λ l. l ++ more.0) (sym (effect_is shard low)))
+        (more.0, behind ∙ ap (take (front_of shard new.core)) lists ∙ more.1 ∙ ap (λ l. l ++ more.0) (sym (effect_is shard low)))
 
     sane_cached : ((p : ℕ) → IsFrontOf p (reach c p) (reach new p)) → (cache : Option Cached) → AreCached c cache → AreCached new cache
     sane_cached longer cache has = cached_on c new cache (shape_at c.core e now) (effect_goes longer) has

@@ -1,7 +1,7 @@
 -- A Read that is told from the cache, and what is cached behind a job.
 use Rattle.std.proofs.Common.{◌≡◌, ◌∙◌, ◌⊎◌, inl, inr, ap, sym, subst, ℕ, ◌≤◌, true, false, List, [], Contains, Option, Some, None, refl, arith}
 use Rattle.std.specs.Option.{option_map, option_map_or}
-use Rattle.std.specs.Prelude.{◌==◌, Bool, IsSome, Ok}
+use Rattle.std.specs.Prelude.{◌==◌, Bool, Ok}
 use Rattle.hs_cache.proofs.RecentLemmas.{put_there}
 use Rattle.hs_cache.specs.Cached.{Cached, HasNoMore, Key, pairs_of, with_pair}
 use Rattle.hs_cluster.proofs.CopyLemmas.{alone_fine, works_own}

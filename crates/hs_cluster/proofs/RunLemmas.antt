@@ -329,12 +329,14 @@ runs_beside tells set found before now begun cluster other disks left es so_far 
   told = so_far.told;
   read = so_far.read;
   copies = λ told called x opens steady. lists_beside x es found.opened now begun cluster other so_far.disks left (so_far.copies told called x opens steady);
+  reads = so_far.reads;
 }
 
 pub can_cache : (tells : Type 0) (set : Setting) (found : Found) (before now : ℕ) (begun cluster : Running) (cache : Option Cached) (disks left : List DiskSeen) (es : Events) → pairs_of cache ≡ []
     → CanRunOn tells set (record { before = before; now = now; old = begun; new = cluster; disks = disks; left = left }) found es
     → CanRunOn tells set (record { before = before; now = now; old = begun; new = record cluster { cache = cache }; disks = disks; left = left }) found es
 can_cache tells set found before now begun cluster cache disks left es none can = record {
+  untold = can.untold;
   calm = can.calm;
   holds = can.holds;
   owns = can.owns;

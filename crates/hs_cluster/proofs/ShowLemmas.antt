@@ -11,7 +11,7 @@ use Rattle.hs_cluster.proofs.PastLemmas.{Worked, job_past, leaves_then, on_any, 
 use Rattle.hs_cluster.proofs.PeerEventLemmas.{SlotStays}
 use Rattle.hs_cluster.proofs.PeerShowLemmas.{PaysFor, begin_lists, cut_lists, job_cut_lists, job_lists, lists_behind, none_lists, quiet_lists}
 use Rattle.hs_cluster.proofs.ReadLemmas.{quiet_reads, report_reads, some_job, read_of}
-use Rattle.hs_cluster.proofs.ReportLemmas.{call_fine, report_fine, report_logs, report_told}
+use Rattle.hs_cluster.proofs.ReportLemmas.{call_fine, report_fine, report_logs}
 pub use Rattle.hs_cluster.proofs.StretchLemmas.{runs_core}
 use Rattle.hs_cluster.proofs.StretchLemmas.{steps_shape, behind, call_earlier, call_keeps, call_lists, call_moments, lists_then, none_yet, runs_append, step_going, stored_back, stored_front, told_by, told_then}
 use Rattle.hs_moments.proofs.SaneLemmas.{growing_beside, growing_without_call, sane_stays}

@@ -188,7 +188,7 @@ fn cached_read(
 
 /// Caches what was read from the disk of a peer, where its entry has taken effect: the number of such
 /// a one is never that of another.
-#[tactic(auto, using(crate::proofs::RecallLemmas::keeps_same, crate::proofs::RecallLemmas::keeps_pair))]
+#[tactic(auto, using(crate::proofs::RecallLemmas::keeps_same))]
 fn keep_told(core: &Core, cache: &mut Option<Cache>, peer: u8, told: &Done)
     requires peer { IsPeer core.now.members.shape peer }
     ensures { KeepsRead (home peer core.now) (front_of (home peer core.now) core.now) told.now

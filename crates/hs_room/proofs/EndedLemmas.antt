@@ -1,5 +1,5 @@
 -- A run whose core ended as it opened, or that opened none, has its journal full only where its limit has no room for a note a peer.
-use Rattle.std.proofs.Common.{◌≡◌, ◌∙◌, inl, inr, ap, sym, subst, ℕ, ◌+◌, ◌*◌, ◌<◌, ◌≤◌, ◌++◌, Bool, true, false, cond, List, [], ◌∷◌, Some, refl, arith, length}
+use Rattle.std.proofs.Common.{◌≡◌, ◌∙◌, inl, inr, ap, sym, subst, ℕ, ◌+◌, ◌*◌, ◌<◌, ◌≤◌, ◌++◌, Bool, true, false, cond, List, [], ◌∷◌, Some, arith, length}
 use Rattle.std.proofs.lemmas.Bool.{false≢true}
 use Rattle.std.specs.List.{AllByRecursion}
 use Rattle.std.specs.Prelude.{if◌then◌else◌}
@@ -10,7 +10,7 @@ use Rattle.hs_journal.specs.declared.entry.JournalEntry.{JournalEntry}
 use Rattle.hs_journal.specs.Notes.{note_count}
 use Rattle.hs_limits.specs.declared.limits.Limits.{Limits}
 use Rattle.hs_promise.specs.Answers.{IsEntry}
-use Rattle.hs_promise.specs.Completes.{FullBeyond, entries_most}
+use Rattle.hs_promise.specs.Completes.{FullBeyond}
 use Rattle.hs_promise.specs.declared.status.Status.{Status}
 use Rattle.hs_promise.specs.declared.status.Status.TheVariants as status
 use Rattle.hs_promise.specs.Ending.{ending_of}

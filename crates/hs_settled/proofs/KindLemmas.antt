@@ -1,12 +1,10 @@
 -- How many entries of lines, and how many notes, a journal has.
-use Rattle.std.proofs.Common.{◌≡◌, ◌∙◌, sym, ap, subst, ◌⊎◌, inl, inr, ℕ, zero, suc, ◌+◌, ◌-◌, ◌<◌, ◌≤◌, ◌==◌, Bool, true, false, cond, List, [], ◌∷◌, length, Option, Some, None, IsSome, refl, arith, tests, is_none, is_some, bytes_eq, codes, count_by, nat_le, slice_get}
-use Rattle.std.proofs.lemmas.Option.{slice_get_within}
+use Rattle.std.proofs.Common.{◌≡◌, ◌∙◌, sym, ap, subst, ◌⊎◌, inl, inr, ℕ, zero, suc, ◌+◌, ◌-◌, ◌<◌, ◌≤◌, ◌==◌, Bool, true, false, cond, List, [], ◌∷◌, length, Option, Some, None, refl, arith, tests, is_none, is_some, count_by, nat_le, slice_get}
 use Rattle.std.specs.List.{AllByRecursion}
 use Rattle.std.specs.Option.{option_map, option_map_or}
-use Rattle.hs_settled.proofs.EndsCountLemmas.{at_key, from_key, keyed, keyed_sum, many, many-all, many-counted, many_le, many_none, many_once, one, sum_from}
+use Rattle.hs_settled.proofs.EndsCountLemmas.{at_key, from_key, keyed, keyed_sum, many, many-counted, many_le, many_none, many_once, one, sum_from}
 use Rattle.hs_settled.proofs.DoneLemmas.{is_done, is_down}
-use Rattle.hs_settled.proofs.ScriptLemmas.{deletes, line_says_delete}
-use Rattle.hs_settled.proofs.StepLemmas.{is_delete, is_deletion, is_entered, is_of_line, is_swept}
+use Rattle.hs_settled.proofs.StepLemmas.{is_entered, is_of_line, is_swept}
 use Rattle.hs_events.specs.Taken.{peer_count}
 use Rattle.hs_journal.specs.declared.entry.JournalEntry.{JournalEntry}
 use Rattle.hs_journal.specs.declared.entry.Who.{Who}
@@ -15,7 +13,6 @@ use Rattle.hs_journal.specs.Events.{client_op}
 use Rattle.hs_journal.specs.Notes.{down_in, is_note, note_count}
 use Rattle.hs_journal.specs.Order.{IsOfLine}
 use Rattle.hs_journal.specs.Telling.{IsOfStore, Done, Down}
-use Rattle.hs_model.specs.declared.command.Command.{Command}
 use Rattle.hs_model.specs.declared.command.Command.TheVariants as command
 use Rattle.hs_model.specs.declared.deed.Deed.{Deed}
 use Rattle.hs_model.specs.declared.deed.Deed.TheVariants as deed
@@ -24,9 +21,6 @@ use Rattle.hs_model.specs.declared.op.Op.TheVariants as op
 use Rattle.hs_model.specs.declared.reply.Reply.{Reply}
 use Rattle.hs_promise.specs.Answers.{IsEntry}
 use Rattle.hs_promise.specs.Run.{Script}
-use Rattle.hs_script.specs.Lines.{line_at}
-use Rattle.hs_script.specs.Reading.{command_at, commands_of}
-use Rattle.hs_script.specs.Scripts.{delete_count}
 
 -- ---- each entry is of one kind
 

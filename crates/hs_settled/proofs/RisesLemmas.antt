@@ -1,11 +1,10 @@
 -- The count of a disk stands whose peer is not told to be down, in the journal or in what found it full.
-use Rattle.std.proofs.Common.{◌≡◌, ◌∙◌, ap, sym, subst, ℕ, ◌+◌, ◌*◌, ◌<◌, ◌++◌, Bool, true, false, cond, List, [], Some, None, IfSome, refl, arith}
+use Rattle.std.proofs.Common.{◌≡◌, ◌∙◌, ap, sym, subst, ℕ, ◌+◌, ◌*◌, ◌<◌, ◌++◌, Bool, true, false, cond, List, [], Some, IfSome, refl, arith}
 use Rattle.std.proofs.lemmas.Bool.{false≢true, true≢false}
 use Rattle.std.specs.Prelude.{if◌then◌else◌}
 use Rattle.hs_desk.specs.declared.fault.CoreFault.TheVariants as fault
 use Rattle.hs_events.specs.Found.{first_core, starts_good}
 use Rattle.hs_events.specs.Reports.{failures}
-use Rattle.hs_events.specs.Taken.{peer_count}
 use Rattle.hs_journal.specs.declared.entry.JournalEntry.{JournalEntry}
 use Rattle.hs_journal.specs.Notes.{note_count}
 use Rattle.hs_ports.specs.Objects.{faults_at}

@@ -1,5 +1,5 @@
 -- How many entries a journal has.
-use Rattle.std.proofs.Common.{◌≡◌, ◌∙◌, ap, subst, true, ℕ, ◌+◌, ◌-◌, ◌*◌, ◌<◌, ◌≤◌, List, length, arith, slice_index}
+use Rattle.std.proofs.Common.{◌≡◌, ◌∙◌, ap, subst, true, ℕ, ◌+◌, ◌-◌, ◌*◌, ◌<◌, ◌≤◌, length, arith, slice_index}
 use Rattle.std.proofs.lemmas.List.Elements.{recursion_from_All}
 use Rattle.hs_settled.proofs.EndsCountLemmas.{AllAbove, above_at, above_each, many, sum_from, times, times-is, times-more, times-sum, times_le, total, total_least, total_most}
 use Rattle.hs_settled.proofs.DoneLemmas.{came_first, done_swept, is_done}

@@ -14,11 +14,9 @@ use Rattle.hs_events.specs.Reports.{failures}
 use Rattle.hs_events.specs.Sane.{IsFromOne}
 use Rattle.hs_events.specs.Taken.{peer_count}
 use Rattle.hs_events.specs.Whole.{open_whole}
-use Rattle.hs_fold.specs.Good.{good_from, is_good}
+use Rattle.hs_fold.specs.Good.{good_from}
 use Rattle.hs_fold.specs.Shards.Setting.{Setting}
 use Rattle.hs_journal.specs.Events.{client_op}
-use Rattle.hs_journal.specs.Moments.{below}
-use Rattle.hs_journal.specs.Notes.{note_count}
 use Rattle.hs_journal.specs.Order.{IsOrdered}
 use Rattle.hs_journal.specs.Telling.{AreDated}
 use Rattle.hs_limits.specs.Shape.{IsShape}
@@ -36,7 +34,7 @@ use Rattle.hs_promise.specs.Entry.{IsSoundAtEntry, MayStop, entry_store}
 use Rattle.hs_promise.specs.Headers.{KeepsHeaders}
 use Rattle.hs_promise.specs.Found.{IsReadAs}
 use Rattle.hs_promise.specs.Kept.{KeepsAlong}
-use Rattle.hs_promise.specs.Lost.{IsPast, NoneGoodCause, NotesCause, NotesEnd}
+use Rattle.hs_promise.specs.Lost.{NoneGoodCause, NotesCause, NotesEnd}
 use Rattle.hs_promise.specs.Machine.{NeverOpened, Went, WentAs, loss_count}
 use Rattle.hs_promise.specs.Run.{DiskRose, Ran, Script}
 use Rattle.hs_promise.specs.Stops.{Stops}

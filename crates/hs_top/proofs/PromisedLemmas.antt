@@ -1,11 +1,10 @@
 -- What is promised of a run, from what hs_run says of it and the laws.
-use Rattle.std.proofs.Common.{◌≡◌, ◌∙◌, inl, ap, refl, true, ℕ, ◌*◌, ◌<◌, ◌++◌, arith, List, Option, Some, None, length}
-use Rattle.std.specs.Prelude.{IfSome, IsSome}
+use Rattle.std.proofs.Common.{◌≡◌, ◌∙◌, ap, refl, true, ℕ, ◌*◌, ◌<◌, arith, Option, Some, None, length}
+use Rattle.std.specs.Prelude.{IfSome}
 use Rattle.hs_settled.specs.Printing.{FailsInOpening, FailsInText, LeavesUnread}
 use Rattle.hs_clauses.proofs.FoundLemmas.{opens_good}
 use Rattle.hs_clauses.proofs.ShownLemmas.{shown_of, unopened_of}
 use Rattle.hs_clauses.specs.Shown.{IsShownRun, OnDisks, ShownAs}
-use Rattle.hs_events.specs.Found.{starts_good}
 use Rattle.hs_standing.specs.Held.{GivesAddresses}
 use Rattle.hs_journal.specs.Events.{client_op}
 use Rattle.hs_model.specs.declared.command.Command.{Command}
@@ -13,7 +12,7 @@ use Rattle.hs_promise.specs.Answers.{Prints}
 use Rattle.hs_promise.specs.Calm.{RisesAreTold}
 use Rattle.hs_promise.specs.Causes.{Cause}
 use Rattle.hs_promise.specs.declared.status.Status.TheVariants as status
-use Rattle.hs_promise.specs.Entry.{IsSoundAtEntry, is_aside}
+use Rattle.hs_promise.specs.Entry.{is_aside}
 use Rattle.hs_promise.specs.Lost.{NotesCause}
 use Rattle.hs_promise.specs.Machine.{WentAs}
 use Rattle.hs_promise.specs.Untold.{IsGoodUntold}

@@ -11,11 +11,11 @@ use Rattle.hs_cluster.specs.Counts.{HasPaid}
 use Rattle.hs_cluster.specs.Disks.{DiskSeen, log_at, seen_as, stands_of}
 use Rattle.hs_cluster.specs.Growing.{GoesOn}
 use Rattle.hs_cluster.specs.Headed.{IsHeadedAt, StaysHeadedAt}
-use Rattle.hs_cluster.specs.Jobs.{ReadsOn, StandsBeside, Works, WorksAlone, is_own, HasStored, ReadsLog}
+use Rattle.hs_cluster.specs.Jobs.{StandsBeside, Works, WorksAlone, is_own, ReadsLog}
 use Rattle.hs_cluster.specs.Running.{Running}
 use Rattle.hs_core_words.specs.declared.event.Event.{Event}
 use Rattle.hs_core_words.specs.declared.event.Event.TheVariants as event
-use Rattle.hs_core_words.specs.Looking.{first_job, status_of, catalogue_of, front_of, home}
+use Rattle.hs_core_words.specs.Looking.{first_job, status_of, front_of, home}
 use Rattle.hs_desk.specs.declared.job.Job.{Job}
 use Rattle.hs_desk.specs.declared.job.Job.TheVariants as job
 use Rattle.hs_entry.specs.declared.entry.Entry.{Entry}
