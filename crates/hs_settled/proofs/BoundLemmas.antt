@@ -33,30 +33,27 @@ next_number from i = omega arith
 
 few : (p : ℕ → Bool) (q : List ℕ → Bool) (from n : ℕ) (lines : List (List ℕ)) → ((i : ℕ) → p (from + i) ≡ true → Passing q lines i) → many p (range_with_len from n) ≤ many q lines
 few p q from zero lines each = omega arith
-few p q from (suc n) [] each = none (p from) refl
+few p q from (suc n) [] each = none (p from) refl (few p q (from + 1) n [] nobody)
   where
     nobody : (i : ℕ) → p (from + 1 + i) ≡ true → Passing q [] i
     nobody i is = absurd (cc (each (suc i) (ap p (sym (next_number from i)) ∙ is)).at)
 
-    none : (b : Bool) → p from ≡ b → cond b 1 0 + many p (range_with_len (from + 1) n) ≤ 0
-    none true is = let here : Passing q [] 0 = each 0 (ap p (omega arith) ∙ is) in absurd (cc here.at)
-    none false is = let rest : many p (range_with_len (from + 1) n) ≤ 0 = few p q (from + 1) n [] nobody in omega (arith, rest)
-few p q from (suc n) (line ∷ lines) each = by (p from) refl
+    none : (b : Bool) → p from ≡ b → many p (range_with_len (from + 1) n) ≤ 0 → cond b 1 0 + many p (range_with_len (from + 1) n) ≤ 0
+    none true is rest = let here : Passing q [] 0 = each 0 (ap p (omega arith) ∙ is) in absurd (cc here.at)
+    none false is rest = omega (arith, rest)
+few p q from (suc n) (line ∷ lines) each = by (p from) refl (few p q (from + 1) n lines later)
   where
     later : (i : ℕ) → p (from + 1 + i) ≡ true → Passing q lines i
     later i is = let there : Passing q (line ∷ lines) (suc i) = each (suc i) (ap p (sym (next_number from i)) ∙ is) in record { line = there.line; at = there.at; is = there.is }
 
-    rest : many p (range_with_len (from + 1) n) ≤ many q lines
-    rest = few p q (from + 1) n lines later
-
-    by : (b : Bool) → p from ≡ b → cond b 1 0 + many p (range_with_len (from + 1) n) ≤ cond (q line) 1 0 + many q lines
-    by true is =
+    by : (b : Bool) → p from ≡ b → many p (range_with_len (from + 1) n) ≤ many q lines → cond b 1 0 + many p (range_with_len (from + 1) n) ≤ cond (q line) 1 0 + many q lines
+    by true is rest =
         let here : Passing q (line ∷ lines) 0 = each 0 (ap p (omega arith) ∙ is) in
         let same : line ≡ here.line = cc here.at in
         let passes : q line ≡ true = ap q same ∙ here.is in
         let one : cond (q line) 1 0 ≡ 1 = ap (λ (b : Bool). cond b 1 0) passes in
         omega (arith, one, rest)
-    by false is = let low = rest in omega (arith, low)
+    by false is rest = omega (arith, rest)
 
 -- ---- deletions
 

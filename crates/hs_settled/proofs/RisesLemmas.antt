@@ -1,5 +1,5 @@
 -- The count of a disk stands whose peer is not told to be down, in the journal or in what found it full.
-use Rattle.std.proofs.Common.{◌≡◌, ◌∙◌, ap, sym, subst, ℕ, ◌+◌, ◌*◌, ◌<◌, ◌++◌, Bool, true, false, cond, List, [], Some, IfSome, refl, arith}
+use Rattle.std.proofs.Common.{◌≡◌, ◌∙◌, inl, inr, ap, sym, subst, ℕ, ◌+◌, ◌*◌, ◌<◌, ◌++◌, Bool, true, false, cond, List, [], Some, IfSome, refl, arith}
 use Rattle.std.proofs.lemmas.Bool.{false≢true, true≢false}
 use Rattle.std.specs.Prelude.{if◌then◌else◌}
 use Rattle.hs_desk.specs.declared.fault.CoreFault.TheVariants as fault

@@ -17,10 +17,6 @@ IsNotAlone entry = entry.who ≡ who.Shard 0 → entry.deed ≡ deed.Entered 0 �
 abbrev pub AreLed : List JournalEntry → Type 0
 AreLed entries = AllByRecursion IsNotAlone entries
 
--- a run with what found its journal full
-abbrev pub whole_of : Ran → Ran
-whole_of r = record r { journal = r.journal ++ r.refused }
-
 -- a journal is answered from a store on, its deletions are told as promised, each of its entries stands for something, and shard 0 is led by lines
 pub record IsCalm (S : Script) (entry : Store) (last : ℕ) (r : Ran) : Type 0 where
   pub answers : Answers S entry r.journal
