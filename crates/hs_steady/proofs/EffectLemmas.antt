@@ -59,18 +59,19 @@ contains_none x there = omega (arith, there.1)
 there_below : (m n j number : ℕ) (entry : Entry) (es : List Entry) → number < m + j → Contains (take n (enumerate_from m es)) (number, entry) → Contains (take j (enumerate_from m es)) (number, entry)
 there_below m zero j number entry es low there = absurd (contains_none (number, entry) there)
 there_below m (suc n) j number entry [] low there = absurd (contains_none (number, entry) there)
-there_below m (suc n) j number entry (e ∷ es) low there = by j low there.0 there.1 there.2
+there_below m (suc n) j number entry (e ∷ es) low there = by j low there.0 there.1 there.2 (λ i below inside. there_below (m + 1) n i number entry es below inside)
   where
     number_is : (a b : ℕ × Entry) → a ≡ b → a.0 ≡ b.0
     number_is a b is = ap (λ (x : ℕ × Entry). x.0) is
 
     by : (j : ℕ) → number < m + j → (k : ℕ) → k < length ((m, e) ∷ take n (enumerate_from (m + 1) es)) → slice_index_or ((m, e) ∷ take n (enumerate_from (m + 1) es)) k (number, entry) ≡ (number, entry)
+        → ((i : ℕ) → number < m + 1 + i → Contains (take n (enumerate_from (m + 1) es)) (number, entry) → Contains (take i (enumerate_from (m + 1) es)) (number, entry))
         → Contains (take j ((m, e) ∷ enumerate_from (m + 1) es)) (number, entry)
-    by zero low zero within at = let same = number_is (m, e) (number, entry) at in absurd (omega (arith, low, same))
-    by zero low (suc k) within at = absurd (contains_none (number, entry) (there_below (m + 1) n 0 number entry es (omega (arith, low)) (k, omega (arith, within), at)))
-    by (suc j) low zero within at = (0, omega arith, at)
-    by (suc j) low (suc k) within at =
-        let c = there_below (m + 1) n j number entry es (omega (arith, low)) (k, omega (arith, within), at) in
+    by zero low zero within at rest = let same = number_is (m, e) (number, entry) at in absurd (omega (arith, low, same))
+    by zero low (suc k) within at rest = absurd (contains_none (number, entry) (rest 0 (omega (arith, low)) (k, omega (arith, within), at)))
+    by (suc j) low zero within at rest = (0, omega arith, at)
+    by (suc j) low (suc k) within at rest =
+        let c = rest j (omega (arith, low)) (k, omega (arith, within), at) in
         (suc c.0, (let inside = c.1 in omega (arith, inside)), c.2)
 
 -- ---- a shard
