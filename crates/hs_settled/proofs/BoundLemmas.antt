@@ -28,6 +28,10 @@ record Passing (q : List ℕ → Bool) (lines : List (List ℕ)) (i : ℕ) : Typ
   at : slice_get lines i ≡ Some line
   is : q line ≡ true
 
+counts : (b : Bool) → b ≡ true → 1 ≤ cond b 1 0
+counts true is = omega arith
+counts false is = cc is
+
 next_number : (from i : ℕ) → from + 1 + i ≡ from + suc i
 next_number from i = omega arith
 
@@ -51,7 +55,7 @@ few p q from (suc n) (line ∷ lines) each = by (p from) refl (few p q (from + 1
         let here : Passing q (line ∷ lines) 0 = each 0 (ap p (omega arith) ∙ is) in
         let same : line ≡ here.line = cc here.at in
         let passes : q line ≡ true = ap q same ∙ here.is in
-        let one : cond (q line) 1 0 ≡ 1 = ap (λ (b : Bool). cond b 1 0) passes in
+        let one = counts (q line) passes in
         omega (arith, one, rest)
     by false is rest = omega (arith, rest)
 

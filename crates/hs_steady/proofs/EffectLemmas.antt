@@ -15,9 +15,9 @@ use Rattle.hs_core_copies.proofs.StepLemmas.{lead_in_step}
 use Rattle.hs_core_copies.proofs.UnsealedLemmas.{numbered_append}
 use Rattle.hs_core_copies.specs.InStep.{IsOf, copies_in}
 use Rattle.hs_core_copies.specs.Lists.{numbered}
-use Rattle.hs_core_words.specs.Looking.{front_of, home, lead_of, sealed_of, status_of}
+use Rattle.hs_core_words.specs.Looking.{front_of, home, lead_of, status_of}
 use Rattle.hs_entry.specs.declared.entry.Entry.{Entry}
-use Rattle.hs_events.specs.Whole.{Whole, floor, reach}
+use Rattle.hs_events.specs.Whole.{Whole, floor}
 use Rattle.hs_fold.specs.Shards.Setting.{Numbered}
 use Rattle.hs_limits.specs.declared.limits.PeerStatus.TheVariants.{Good}
 use Rattle.hs_moments.specs.WholeMachine.{IsFrontOf}

@@ -1,5 +1,5 @@
 -- What an event makes of a peer's list: what its report tells of it, and what has come behind; and what a disk may have behind that.
-use Rattle.std.proofs.Common.{◌≡◌, ◌≢◌, ◌⊎◌, ◌∙◌, ap, sym, refl, inl, inr, ℕ, ◌+◌, ◌-◌, ◌==◌, ◌&&◌, eqb-true, Bool, true, false, if◌then◌else◌, List, [], ◌++◌, Option, Some, None, length, map, arith}
+use Rattle.std.proofs.Common.{◌≡◌, ◌≢◌, ◌⊎◌, ◌∙◌, ap, sym, refl, inl, inr, ℕ, ◌-◌, ◌==◌, ◌&&◌, eqb-true, Bool, true, false, if◌then◌else◌, List, [], ◌++◌, Option, Some, None, length, map, arith}
 use Rattle.std.proofs.lemmas.List.{append-nil, length-map}
 use Rattle.std.proofs.lemmas.List.FromFn.{length-enumerate_from}
 use Rattle.std.specs.Option.{option_map, option_map_or}

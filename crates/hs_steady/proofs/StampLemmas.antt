@@ -3,7 +3,7 @@ use Rattle.std.proofs.Common.{◌≡◌, ◌∙◌, ap, sym, subst, refl, inl, i
 use Rattle.std.proofs.lemmas.Bool.{cases_lt}
 use Rattle.std.proofs.lemmas.List.{take-map, take_at}
 use Rattle.std.proofs.lemmas.List.Elements.{All-head, All-tail}
-use Rattle.std.specs.List.{All, enumerate_from}
+use Rattle.std.specs.List.{enumerate_from}
 use Rattle.std.specs.Prelude.{slice_get, take}
 use Rattle.hs_copies.proofs.ListLemmas.{front_both, front_first, front_length, front_trans, front_whole}
 use Rattle.hs_copies.proofs.StampLemmas.{log_tells, stamped_prefix}

@@ -1,5 +1,5 @@
 -- What the log of a peer has behind an event, and what waits there.
-use Rattle.std.proofs.Common.{◌≡◌, ◌≢◌, ◌∙◌, ap, sym, subst, refl, inl, inr, ℕ, ◌+◌, ◌-◌, ◌≤◌, true, false, List, [], ◌∷◌, ◌++◌, Some, None, flat_map, length, arith}
+use Rattle.std.proofs.Common.{◌≡◌, ◌≢◌, ◌∙◌, ap, sym, subst, refl, inl, inr, ℕ, ◌+◌, ◌≤◌, true, false, List, [], ◌∷◌, ◌++◌, Some, None, flat_map, length, arith}
 use Rattle.std.proofs.lemmas.List.{length-append, length-drop, take-append-le, take_at}
 use Rattle.std.specs.Prelude.{drop, take}
 use Rattle.hs_cluster.proofs.HeldLemmas.{append_is, read_is, seal_is}
@@ -18,7 +18,7 @@ use Rattle.hs_core_words.specs.declared.task.Task.{Task}
 use Rattle.hs_core_words.specs.Looking.{first_job, group_of, sealed_of, status_of, tasks_of}
 use Rattle.hs_core_words.specs.State.{Core}
 use Rattle.hs_core_words.specs.Step.{step}
-use Rattle.hs_desk.specs.Answers.{answers, is_reclaim}
+use Rattle.hs_desk.specs.Answers.{is_reclaim}
 use Rattle.hs_desk.specs.declared.done.Done.{Done}
 use Rattle.hs_desk.specs.declared.done.Done.TheVariants as done
 use Rattle.hs_desk.specs.declared.job.Job.{Job}
