@@ -7,10 +7,11 @@ const NAMING: [&str; 8] = [
 ];
 
 /// Has each run of a case keep so many copies of each shard, and nothing be compared of its disks. It
-/// answers false where a case is not of one copy, or is given or names a peer, or tells a moment.
+/// answers false where a case is not of one copy, is given or names a peer, tells a moment, or has a pool
+/// of its own, in which messages of copies take room.
 pub fn with_copies(reader: &mut Reader, passes: &mut [Pass], copies: u8) -> bool {
     for pass in passes.iter_mut() {
-        if is_of_a_peer(pass) || names_a_peer(reader, &pass.script) {
+        if is_of_a_peer(pass) || names_a_peer(reader, &pass.script) || has_pool(reader, pass) {
             return false;
         }
         if !set_copies(&mut pass.words, copies) {
@@ -44,6 +45,16 @@ fn names_a_peer(reader: &mut Reader, script: &[u8]) -> bool {
             if is(word, naming) {
                 return true;
             }
+        }
+    }
+    false
+}
+
+/// Whether the words of a run limit its pool.
+fn has_pool(reader: &mut Reader, pass: &Pass) -> bool {
+    for word in &reader.split(&pass.words, b' ') {
+        if is(word, "--pool") {
+            return true;
         }
     }
     false
