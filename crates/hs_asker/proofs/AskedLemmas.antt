@@ -3,7 +3,7 @@ use Rattle.std.specs.List.{AllByRecursion}
 use Rattle.std.proofs.Common.{◌≡◌, ◌∙◌, ap, sym, subst, ℕ, ◌+◌, ◌*◌, ◌≤◌, List, [], ◌∷◌, ◌++◌, Option, Some, None, Result, Ok, Err, refl, append-nil, arith, length, drop}
 use Rattle.std.proofs.lemmas.List.{append_assoc}
 use Rattle.std.specs.Prelude.{IfErr, IfOk, OnOk, ⊤}
-use Rattle.hs_asking.specs.Asked.{HasAsked}
+use Rattle.hs_asking.specs.Asked.{HasAsked, HasBegun}
 use Rattle.hs_asking.specs.Telling.{MayBeTold}
 use Rattle.hs_desk.specs.declared.fault.CoreFault.{CoreFault}
 use Rattle.hs_desk.specs.declared.fault.CoreFault.TheVariants as core
@@ -29,7 +29,7 @@ use Rattle.hs_asker.specs.Lines.{AreAsked, IsDriving, IsOfAsker, command_at, ops
 use Rattle.hs_asker.specs.Shows.{Asking, shows_of}
 use Rattle.hs_asker.proofs.DoneLemmas.{done_more}
 use Rattle.hs_asker.proofs.JournalLemmas.{adds, behind_it, two_more, unused, up_to_answer, up_to_both, up_to_more}
-use Rattle.hs_asker.proofs.LinesLemmas.{all_of_asker, are_asked, asked_front, asks_other, asks_there, command_zero, ops_more}
+use Rattle.hs_asker.proofs.LinesLemmas.{all_of_asker, are_asked, asked_front, asks_other, asks_there, command_within, command_zero, ops_more}
 use Rattle.hs_asker.proofs.ShownLemmas.{shown_more}
 use Rattle.hs_asker.proofs.StopLemmas.{stops_between, stops_within}
 
@@ -179,8 +179,44 @@ module _ (tells : Type 0) (e : AtEntry) (shape : IsShape e.set.shape) (count : l
       subst (λ (r : Result Reply CoreFault). StopsSo new more r) (sym is)
       (stops_within tells e going.found going.first going.opening shape count (command_at (asking ++ more)) said going.lines old new (command.Client o) fault left (command_zero (asking ++ more)) (asked_front asking more) going.done going.shows asks)
   asked_stops new more result (Undriven mid fault asks drives is) left = subst (λ (r : Result Reply CoreFault). StopsSo new more r) (sym is) (driven_stops mid new more fault asks drives left)
-  asked_stops new more result (Unheard mid asks drives is) left = subst (λ (r : Result Reply CoreFault). StopsSo new more r) (sym is) (wanting_behind mid new more asks drives left)
+  asked_stops new more result (Unheard mid asks drives told is answer may) left = subst (λ (r : Result Reply CoreFault). StopsSo new more r) (sym is) (wanting_behind mid new more asks drives left)
   asked_stops new more result (Heard mid asks drives told is answer may) left = subst (λ (r : Result Reply CoreFault). StopsSo new more r) (sym is) tt
+
+  -- ---- whether it was answered or not
+
+  -- how the journal goes on
+  abbrev Grows : Point → Type 0
+  Grows new = (entries : List JournalEntry) × (new.cluster.core.journal ≡ old.cluster.core.journal ++ entries)
+
+  driven_grows : (mid new : Point) (more : List Command) (fault : ClusterFault) → RunsAlone tells e.set.name (command.Client o) old mid (Ok tt) → HasDriven tells e.set.name mid new more (Err fault) → Grows new
+  driven_grows mid new more fault asks (Whole d is) = let p = past mid new more asks d in (p.more, p.adds)
+  driven_grows mid new more fault asks (Wanting d is) = let p = past mid new more asks d in (p.more, p.adds)
+  driven_grows mid new more fault asks (Cut last front c cut d h runs same is) =
+      let p : IsPast old (asking ++ front) last = past_driven old mid last asking front (past_more old old mid said (command.Client o) past_none asks) d in
+      let x = adds tells e going.found going.first going.opening (asking ++ front) p.lines last new c (Err cut) p.done runs in
+      (p.more ++ x.0, two_more old.cluster.core.journal last.cluster.core.journal new.cluster.core.journal p.more x.0 p.adds x.1)
+
+  grows : (new : Point) (more : List Command) (result : Result Reply CoreFault) → DoesAsk tells e.set.name o old new more result → Grows new
+  grows new more result (Unasked same is) = ([], ap (λ (p : Point). p.cluster.core.journal) same ∙ sym (append-nil old.cluster.core.journal))
+  grows new more result (Broken fault asks is) = adds tells e going.found going.first going.opening said going.lines old new (command.Client o) (Err fault) going.done asks
+  grows new more result (Undriven mid fault asks drives is) = driven_grows mid new more fault asks drives
+  grows new more result (Unheard mid asks drives told is answer may) = let p = past mid new more asks drives in (p.more, p.adds)
+  grows new more result (Heard mid asks drives told is answer may) = let p = past mid new more asks drives in (p.more, p.adds)
+
+  pub has_begun : (new : Point) (more : List Command) (result : Result Reply CoreFault) (was now : Option CoreFault) → AllByRecursion IsDriving more → DoesAsk tells e.set.name o old new more result
+      → HasBegun (shows_of tells e (record { said = said; journal = old.cluster.core.journal; ended = was })) (shows_of tells e (record { said = asking ++ more; journal = new.cluster.core.journal; ended = now })) o
+  has_begun new more result was now driving does = record {
+    line = length said + 1;
+    more = (grows new more result does).0;
+    above = λ n some. let low = command_within said n some in omega (arith, low);
+    journal = (grows new more result does).1;
+    unused = unused old.line (length said + 1) old.cluster.core.journal (omega (arith, number)) going.up_to;
+    asks = asks_there said more o driving;
+    others = λ n other. asks_other said more o n driving other;
+  }
+    where
+      number : old.line ≡ length said
+      number = going.done.line ∙ sym going.done.each
 
   -- ---- where it was answered
 
@@ -202,7 +238,7 @@ module _ (tells : Type 0) (e : AtEntry) (shape : IsShape e.set.shape) (count : l
   heard new more result told ok (Unasked same is) = absurd (err_ok core.NoMemory told (sym is ∙ ok))
   heard new more result told ok (Broken fault asks is) = absurd (err_ok (core_of fault) told (sym is ∙ ok))
   heard new more result told ok (Undriven mid fault asks drives is) = absurd (err_ok (core_of fault) told (sym is ∙ ok))
-  heard new more result told ok (Unheard mid asks drives is) = absurd (err_ok core.NoMemory told (sym is ∙ ok))
+  heard new more result told ok (Unheard mid asks drives reply is answer may) = absurd (err_ok core.NoMemory told (sym is ∙ ok))
   heard new more result told ok (Heard mid asks drives reply is answer may) =
       subst (λ (r : Reply). IsHeard new more r) (ok_is reply told (sym is ∙ ok)) (record { mid = mid; asks = asks; drives = drives; answer = answer; may = may })
 
@@ -258,6 +294,14 @@ module _ (tells : Type 0) (name : List ℕ → Address) (e : AtEntry) (s : Insid
       (subst (λ (said : List Command). HasAsked (shows_of tells e (record { said = s.said; journal = s.cluster.core.journal; ended = s.ended })) (shows_of tells e (record { said = said; journal = next.cluster.core.journal; ended = next.ended })) o told) (sym a.said)
       (has_asked tells e h.shape h.count s.said o (at_of s) (h.going none) k.mid (at_of next) a.more k.asks k.drives s.ended next.ended told a.driving k.answer k.may)))
   asked_so was now old new (Err fault) a = tt
+
+  pub begun_so : (was now : Asking) → was ≡ record { said = s.said; journal = s.cluster.core.journal; ended = s.ended } → now ≡ record { said = next.said; journal = next.cluster.core.journal; ended = next.ended }
+      → (result : Result Reply CoreFault) → Asks tells name o (at_of s) (at_of next) s.said next.said result → HasBegun (shows_of tells e was) (shows_of tells e now) o
+  begun_so was now old new result a =
+      subst (λ (a : Asking). HasBegun (shows_of tells e a) (shows_of tells e now) o) (sym old)
+      (subst (λ (a : Asking). HasBegun (shows_of tells e (record { said = s.said; journal = s.cluster.core.journal; ended = s.ended })) (shows_of tells e a) o) (sym new)
+      (subst (λ (said : List Command). HasBegun (shows_of tells e (record { said = s.said; journal = s.cluster.core.journal; ended = s.ended })) (shows_of tells e (record { said = said; journal = next.cluster.core.journal; ended = next.ended })) o) (sym a.said)
+      (has_begun tells e h.shape h.count s.said o (at_of s) (h.going none) (at_of next) a.more result s.ended next.ended a.driving (by_name a.more result a.does))))
 
   -- what was asked for is one operation more
   pub ops_on : (was now : Asking) → was ≡ record { said = s.said; journal = s.cluster.core.journal; ended = s.ended } → now ≡ record { said = next.said; journal = next.cluster.core.journal; ended = next.ended }

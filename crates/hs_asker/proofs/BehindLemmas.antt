@@ -1,5 +1,5 @@
 -- An operation with what is done behind its line.
-use Rattle.std.proofs.Common.{◌≡◌, ◌∙◌, ap, sym, ℕ, ◌+◌, ◌≤◌, true, List, [], ◌∷◌, ◌++◌, Result, Ok, Err, refl, append-nil, arith, drop, length}
+use Rattle.std.proofs.Common.{◌≡◌, ◌∙◌, ap, sym, subst, ℕ, ◌+◌, ◌≤◌, true, List, [], ◌∷◌, ◌++◌, Result, Ok, Err, refl, append-nil, arith, drop, length}
 use Rattle.std.specs.Prelude.{IfErr, IfOk}
 use Rattle.hs_cluster.specs.declared.fault.ClusterFault.{ClusterFault}
 use Rattle.hs_desk.specs.declared.fault.CoreFault.{CoreFault}
@@ -11,7 +11,7 @@ use Rattle.hs_model.specs.declared.command.Command.TheVariants as command
 use Rattle.hs_model.specs.declared.op.Op.{Op}
 use Rattle.hs_model.specs.declared.reply.Reply.{Reply}
 use Rattle.hs_run.specs.Between.{Point}
-use Rattle.hs_asker.specs.Answer.{HasAnswer}
+use Rattle.hs_asker.specs.Answer.{HasAnswer, IsAnswered}
 use Rattle.hs_asker.specs.Asked.{Asks, Broken, Unasked, Undriven, core_of}
 use Rattle.hs_asker.specs.Driven.{DrivesOn}
 use Rattle.hs_asker.specs.Going.{RunsAlone}
@@ -33,14 +33,15 @@ module _ (tells : Type 0) (name : List ℕ → Address) (o : Op) where
     asks_undriven fault why d end =
         record { more = d.said; driving = d.driving; said = d.more ∙ ap (λ (x : List Command). x ++ d.said) same; does = Undriven mid fault asks d.driven (ap (λ (f : CoreFault). Err f) end) }
 
-    pub asks_heard : DrivesOn tells name mid new then is (Ok tt) → (entries : List JournalEntry) (first : ℕ) (kind : Kind) (result : Result Reply CoreFault)
-        → entries ≡ drop (length old.cluster.core.journal) new.cluster.core.journal → first ≡ old.line + 1 → kind ≡ kind_of o
-        → IfOk result (λ told. HasAnswer entries first told) → IfOk result (λ told. kind_may kind told ≡ true) → IfErr result (λ fault. fault ≡ core.NoMemory) → Asks tells name o old new was is result
-    asks_heard d entries first kind result are number kind_is answer may only = record {
+    pub asks_heard : DrivesOn tells name mid new then is (Ok tt) → (front entries : List JournalEntry) (first : ℕ) (kind : Kind) (result : Result Reply CoreFault)
+        → front ≡ old.cluster.core.journal → entries ≡ new.cluster.core.journal → first ≡ old.line + 1 → kind ≡ kind_of o
+        → IsAnswered (drop (length front) new.cluster.core.journal) first kind → IfOk result (λ told. HasAnswer (drop (length front) entries) first told) → IfOk result (λ told. kind_may kind told ≡ true) → IfErr result (λ fault. fault ≡ core.NoMemory) → Asks tells name o old new was is result
+    asks_heard d front entries first kind result was are number kind_is found answer may only = record {
       more = d.said;
       driving = d.driving;
       said = d.more ∙ ap (λ (x : List Command). x ++ d.said) same;
-      does = heard_or tells name o old mid new d.said entries first kind result asks (whole_drives tells name mid new d.said d.driven) are number kind_is answer may only;
+      does = heard_or tells name o old mid new d.said (drop (length front) entries) first kind result asks (whole_drives tells name mid new d.said d.driven) (λ i. drop (length (was i)) (are i)) number kind_is
+          (subst (λ (xs : List JournalEntry). IsAnswered (drop (length front) xs) first kind) (sym are) found) answer may only;
     }
 
     pub journal_asked : DrivesOn tells name mid new then is (Ok tt) → length old.cluster.core.journal ≤ length new.cluster.core.journal

@@ -12,7 +12,7 @@ use Rattle.hs_model.specs.declared.op.Op.{Op}
 use Rattle.hs_model.specs.declared.reply.Reply.{Reply}
 use Rattle.hs_run.specs.Between.{Point}
 use Rattle.hs_run.proofs.ReadyLemmas.{journal_grows}
-use Rattle.hs_asker.specs.Answer.{HasAnswer}
+use Rattle.hs_asker.specs.Answer.{HasAnswer, IsAnswered}
 use Rattle.hs_asker.specs.Asked.{Asks, Broken, DoesAsk, Heard, Unasked, Undriven, Unheard, core_of}
 use Rattle.hs_asker.specs.Driven.{Drives}
 use Rattle.hs_asker.specs.Going.{RunsAlone}
@@ -28,12 +28,15 @@ journal_on tells name asked old new did runs =
 
 pub heard_or : (tells : Type 0) (name : List ℕ → Address) (o : Op) (old mid new : Point) (more : List Command) (entries : List JournalEntry) (first : ℕ) (kind : Kind) (result : Result Reply CoreFault) → RunsAlone tells name (command.Client o) old mid (Ok tt) → Drives tells name mid more new
     → entries ≡ drop (length old.cluster.core.journal) new.cluster.core.journal → first ≡ old.line + 1 → kind ≡ kind_of o
-    → IfOk result (λ told. HasAnswer entries first told) → IfOk result (λ told. kind_may kind told ≡ true) → IfErr result (λ fault. fault ≡ core.NoMemory) → DoesAsk tells name o old new more result
-heard_or tells name o old mid new more entries first kind (Ok told) asks drives are number same answer may only =
+    → IsAnswered entries first kind → IfOk result (λ told. HasAnswer entries first told) → IfOk result (λ told. kind_may kind told ≡ true) → IfErr result (λ fault. fault ≡ core.NoMemory) → DoesAsk tells name o old new more result
+heard_or tells name o old mid new more entries first kind (Ok told) asks drives are number same found answer may only =
     Heard mid asks drives told refl
     (subst (λ (n : ℕ). HasAnswer (drop (length old.cluster.core.journal) new.cluster.core.journal) n told) number (subst (λ (xs : List JournalEntry). HasAnswer xs first told) are answer))
     (may_by o told (ap (λ (k : Kind). kind_may k told) (sym same) ∙ may))
-heard_or tells name o old mid new more entries first kind (Err fault) asks drives are number same answer may only = Unheard mid asks drives (ap (λ (f : CoreFault). Err f) only)
+heard_or tells name o old mid new more entries first kind (Err fault) asks drives are number same found answer may only =
+    Unheard mid asks drives found.told (ap (λ (f : CoreFault). Err f) only)
+    (subst (λ (n : ℕ). HasAnswer (drop (length old.cluster.core.journal) new.cluster.core.journal) n found.told) number (subst (λ (xs : List JournalEntry). HasAnswer xs first found.told) are found.answer))
+    (may_by o found.told (ap (λ (k : Kind). kind_may k found.told) (sym same) ∙ found.may))
 
 -- there was no room behind it
 unheard : (tells : Type 0) (name : List ℕ → Address) (o : Op) (old new : Point) (more : List Command) (result : Result Reply CoreFault) (told : Reply) → result ≡ Ok told → DoesAsk tells name o old new more result → DoesAsk tells name o old new more (Err core.NoMemory)
@@ -46,8 +49,8 @@ unheard tells name o old new more result told ok (Undriven mid fault asks drives
   where
     err_ok : (f : CoreFault) (x : Reply) → ◌≡◌ {A = Result Reply CoreFault} (Err f) (Ok x) → ⊥
     err_ok f x e = cc
-unheard tells name o old new more result told ok (Unheard mid asks drives is) = Unheard mid asks drives refl
-unheard tells name o old new more result told ok (Heard mid asks drives reply is answer may) = Unheard mid asks drives refl
+unheard tells name o old new more result told ok (Unheard mid asks drives reply is answer may) = Unheard mid asks drives reply refl answer may
+unheard tells name o old new more result told ok (Heard mid asks drives reply is answer may) = Unheard mid asks drives reply refl answer may
 
 pub asks_unheard : (tells : Type 0) (name : List ℕ → Address) (o : Op) (old new : Point) (was then is : List Command) (result : Result Reply CoreFault) (told : Reply) → is ≡ then → result ≡ Ok told → Asks tells name o old new was then result → Asks tells name o old new was is (Err core.NoMemory)
 asks_unheard tells name o old new was then is result told same ok a = record { more = a.more; driving = a.driving; said = same ∙ a.said; does = unheard tells name o old new a.more result told ok a.does }

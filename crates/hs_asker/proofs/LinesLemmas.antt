@@ -1,7 +1,9 @@
 -- The commands of what was asked for.
-use Rattle.std.proofs.Common.{◌≡◌, ◌∙◌, ap, ℕ, suc, ◌+◌, ◌-◌, ◌<◌, ◌==◌, Bool, true, false, List, [], ◌∷◌, ◌++◌, Option, Some, None, refl, arith, append-nil, length, if◌then◌else◌}
+use Rattle.std.proofs.Common.{◌≡◌, ◌∙◌, inl, inr, ap, subst, ℕ, suc, ◌+◌, ◌-◌, ◌<◌, ◌≤◌, ◌==◌, Bool, true, false, List, [], ◌∷◌, ◌++◌, Option, Some, None, refl, arith, append-nil, length, if◌then◌else◌}
+use Rattle.std.proofs.lemmas.Bool.{cases_eq, ne_eqb}
 use Rattle.std.proofs.lemmas.List.Elements.{filter_map-append}
 use Rattle.std.specs.List.{AllByRecursion, filter_map}
+use Rattle.std.specs.Prelude.{IsSome}
 use Rattle.hs_events.specs.Commands.{is_served}
 use Rattle.hs_journal.specs.Events.{client_op}
 use Rattle.hs_model.specs.declared.command.Command.{Command}
@@ -45,6 +47,14 @@ command_last xs c = command_behind xs (c ∷ []) 1 (omega arith)
 pub command_zero : (xs : List Command) → command_at xs 0 ≡ None
 command_zero [] = refl
 command_zero (x ∷ xs) = command_zero xs
+
+-- a client's line is one of them
+pub command_within : (xs : List Command) (n : ℕ) → IsSome (client_op (command_at xs n)) → n ≤ length xs
+command_within [] n some = absurd (cc some)
+command_within (x ∷ xs) n some = elim (cases_eq n 1) [
+  | inl one ↦ omega (arith, one)
+  | inr other ↦ (let rest = command_within xs (n - 1) (subst (λ (b : Bool). IsSome (client_op (if b then Some x else command_at xs (n - 1)))) (ne_eqb n 1 other) some) in omega (arith, rest))
+]
 
 -- ---- one more
 

@@ -1,13 +1,17 @@
 -- Entries that were looked at, one after another.
 use Rattle.std.specs.List.{AllByRecursion}
-use Rattle.std.proofs.Common.{◌≡◌, ◌∙◌, ap, sym, subst, ℕ, ◌+◌, ◌<◌, List, [], ◌∷◌, ◌++◌, Option, Some, None, refl, arith, false, length, length-take, take, get_or}
+use Rattle.std.proofs.Common.{◌≡◌, ◌∙◌, ap, sym, subst, ℕ, ◌+◌, ◌<◌, List, [], ◌∷◌, ◌++◌, Option, Some, None, refl, arith, false, length, length-take, take, get_or, true}
 use Rattle.std.proofs.lemmas.Bool.{true≢false}
 use Rattle.std.proofs.lemmas.List.{take_more}
+use Rattle.std.proofs.Math.Seq.{get_or-append_seam}
 use Rattle.std.specs.Option.{is_some}
 use Rattle.hs_asking.specs.Asked.{IsOfNoLine}
 use Rattle.hs_journal.specs.declared.entry.JournalEntry.{JournalEntry}
 use Rattle.hs_journal.specs.declared.entry.Who.TheVariants as who
-use Rattle.hs_asker.specs.Answer.{IsAnswerAt}
+use Rattle.hs_model.specs.declared.reply.Reply.{Reply}
+use Rattle.hs_asker.specs.Answer.{IsAnswerAt, IsAnswered}
+use Rattle.hs_asker.specs.Kinds.{kind_may}
+use Rattle.hs_asker.specs.declared.kinds.Kind.{Kind}
 
 -- none of them is of a line, or only the one at this place is, which is of this one
 abbrev pub Scans : List JournalEntry → ℕ → Option ℕ → Type 0
@@ -54,3 +58,14 @@ step_found xs line k None new d low h none is same =
     subst (λ (o : Option ℕ). Scans (take (k + 1) xs) line o) (sym same)
     (subst (λ (ys : List JournalEntry). IsAnswerAt ys line k) (sym (take_more xs k d low))
     (subst (λ (n : ℕ). IsAnswerAt (take k xs ++ get_or xs k d ∷ []) line n) long (scan_found (take k xs) line (get_or xs k d) h is)))
+
+-- what stands at the place of a line's answer is its answer
+pub answered_at : (xs : List JournalEntry) (line place : ℕ) (kind : Kind) (d : JournalEntry) → IsAnswerAt xs line place → kind_may kind (get_or xs place d).reply ≡ true → IsAnswered xs line kind
+answered_at xs line place kind d h may =
+    let there : get_or xs place d ≡ h.entry =
+    ap (λ (k : ℕ). get_or xs k d) (sym h.there) ∙ (ap (λ (ys : List JournalEntry). get_or ys (length h.front) d) h.is ∙ get_or-append_seam h.front h.entry h.back d) in
+    record {
+      told = h.entry.reply;
+      answer = record { front = h.front; entry = h.entry; back = h.back; is = h.is; before = h.before; behind = h.behind; of_line = h.of_line; tells = refl };
+      may = ap (λ (e : JournalEntry). kind_may kind e.reply) (sym there) ∙ may;
+    }

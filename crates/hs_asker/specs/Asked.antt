@@ -30,8 +30,9 @@ pub data DoesAsk (tells : Type 0) (name : List ℕ → Address) (o : Op) (old ne
   Unasked : new ≡ old → result ≡ Err core.NoMemory → DoesAsk tells name o old new more result
   Broken : (fault : ClusterFault) → RunsAlone tells name (command.Client o) old new (Err fault) → result ≡ Err (core_of fault) → DoesAsk tells name o old new more result
   Undriven : (mid : Point) → (fault : ClusterFault) → RunsAlone tells name (command.Client o) old mid (Ok tt) → HasDriven tells name mid new more (Err fault) → result ≡ Err (core_of fault) → DoesAsk tells name o old new more result
-  -- what was answered was not found, or there was no memory for it
-  Unheard : (mid : Point) → RunsAlone tells name (command.Client o) old mid (Ok tt) → Drives tells name mid more new → result ≡ Err core.NoMemory → DoesAsk tells name o old new more result
+  -- there was no memory for what was answered
+  Unheard : (mid : Point) → RunsAlone tells name (command.Client o) old mid (Ok tt) → Drives tells name mid more new → (told : Reply) → result ≡ Err core.NoMemory
+      → HasAnswer (drop (length old.cluster.core.journal) new.cluster.core.journal) (old.line + 1) told → MayBeTold o told → DoesAsk tells name o old new more result
   Heard : (mid : Point) → RunsAlone tells name (command.Client o) old mid (Ok tt) → Drives tells name mid more new → (told : Reply) → result ≡ Ok told
       → HasAnswer (drop (length old.cluster.core.journal) new.cluster.core.journal) (old.line + 1) told → MayBeTold o told → DoesAsk tells name o old new more result
 

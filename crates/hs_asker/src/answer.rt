@@ -1,7 +1,7 @@
 //! The answer of a line among what was answered.
 ghost use Rattle.std.specs.List.{AllByRecursion};
 ghost use Rattle.std.specs.Prelude.{◌≡◌, ◌≤◌, IfErr, IfOk, IfSome, IsTrue, drop, length, true};
-ghost use Rattle.hs_asker.specs.Answer.{HasAnswer, IsAnswerAt};
+ghost use Rattle.hs_asker.specs.Answer.{HasAnswer, IsAnswerAt, IsAnswered};
 ghost use Rattle.hs_asker.specs.Kinds.{kind_may};
 ghost use Rattle.hs_asking.specs.Asked.{IsOfNoLine};
 ghost use Rattle.hs_desk.specs.declared.fault.CoreFault.TheVariants.{NoMemory};
@@ -29,7 +29,7 @@ fn place_of(entries: &[JournalEntry], line: u64) -> Option<usize>
 }
 
 /// What a line was answered, where an operation of a kind may be told that. That there is no such answer
-/// counts as want of memory.
+/// counts as want of memory: this is asked where there is one.
 fn answer_of(
     alloc: Global,
     entries: &[JournalEntry],
@@ -67,6 +67,19 @@ pub(crate) fn answer_behind(
     ensures only { IfErr result (λ fault. fault ≡ NoMemory) }
 {
     answer_of(alloc, &entries[from..], line, kind)
+}
+
+/// Whether a line was answered behind the first of some entries, what an operation of a kind may be told.
+#[tactic(auto, using(crate::proofs::ScanLemmas::answered_at))]
+pub(crate) fn is_answered(entries: &[JournalEntry], from: usize, line: u64, kind: Kind) -> bool
+    requires { from ≤ length entries.now }
+    ensures { IsTrue result → IsAnswered (drop from entries.now) line kind }
+{
+    let behind = &entries[from..];
+    let Some(place) = place_of(behind, line) else {
+        return false;
+    };
+    may_be_told(kind, &behind[place].reply)
 }
 
 /// Whether a line has an entry behind the first of some.

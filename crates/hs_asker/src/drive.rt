@@ -1,13 +1,14 @@
 //! What is to be done behind an operation's line: turns until it is answered, and one more of each peer, or
-//! a settle.
-ghost use Rattle.std.specs.Prelude.{◌≡◌, length, map, OnOk};
+//! a settle; and settles until it is answered.
+ghost use Rattle.std.specs.Prelude.{◌≡◌, ◌≤◌, drop, length, map, OnOk};
+ghost use Rattle.hs_asker.specs.Answer.{IsAnswered};
 ghost use Rattle.hs_asker.specs.Driven.{DrivesOn};
 ghost use Rattle.hs_asker.specs.Going.{point_of};
 ghost use Rattle.hs_asker.specs.Lines.{IsDriving};
 ghost use Rattle.hs_cluster.specs.Disks.{seen_as};
 ghost use Rattle.hs_run.specs.Between.{IsReadyAt};
 
-use crate::answer::has_answer;
+use crate::answer::{has_answer, is_answered};
 use crate::kinds::Kind;
 use crate::line::run_line;
 use crate::work::{Work, has_room, note_line};
@@ -129,10 +130,10 @@ impl<D: Disk> Work<D> {
         Ok(())
     }
 
-    /// Does what is to be done behind a line: turns until it is answered, and one more of each peer, so
-    /// that a deletion which was begun goes on beside what is asked for; and behind a root, which is the
-    /// last that a client asks for, a settle.
-    pub(crate) fn drive<A: Addresser>(
+    /// Does turns until a line is answered, and one more of each peer, so that a deletion which was begun
+    /// goes on beside what is asked for; and behind a root, which is the last that a client asks for, a
+    /// settle.
+    fn drive_once<A: Addresser>(
         &mut self,
         naming: &A,
         kind: Kind,
@@ -162,5 +163,78 @@ impl<D: Disk> Work<D> {
         }
         self.drive_until(naming, from, line)?;
         self.drive_each(naming)
+    }
+
+    /// Settles until a line has an answer that an operation of a kind may be told. So an answer that is not
+    /// there yet is waited for. That there is no number or no room for one more line counts as want of
+    /// memory.
+    fn settle_until<A: Addresser>(
+        &mut self,
+        naming: &A,
+        from: usize,
+        line: u64,
+        kind: Kind,
+    ) -> Result<(), ClusterFault>
+        requires ready { IsReadyAt D.tells (point_of self.old.watch self.old.cluster
+            (map (λ disk. seen_as (D.size disk) (D.stands disk) (D.faults disk)) self.old.disks.items)
+            self.old.line) }
+        requires some { from ≤ length self.old.cluster.core.journal }
+        ensures drives { DrivesOn D.tells (A.name naming.now)
+            (point_of self.old.watch self.old.cluster
+            (map (λ disk. seen_as (D.size disk) (D.stands disk) (D.faults disk)) self.old.disks.items)
+            self.old.line)
+            (point_of self.new.watch self.new.cluster
+            (map (λ disk. seen_as (D.size disk) (D.stands disk) (D.faults disk)) self.new.disks.items)
+            self.new.line)
+            (map (λ said. said.value) self.old.said.items)
+            (map (λ said. said.value) self.new.said.items) result }
+        ensures ready { OnOk result (IsReadyAt D.tells (point_of self.new.watch self.new.cluster
+            (map (λ disk. seen_as (D.size disk) (D.stands disk) (D.faults disk)) self.new.disks.items)
+            self.new.line)) }
+        ensures answered { OnOk result
+            (IsAnswered (drop from self.new.cluster.core.journal) line kind) }
+        ensures count { length self.new.disks.items ≡ length self.old.disks.items }
+        ensures ended { self.new.ended ≡ self.old.ended }
+    {
+        for _step in 0..u64::MAX {
+            if is_answered(self.cluster.journal().entries(), from, line, kind) {
+                return Ok(());
+            }
+            self.drive_line(naming, Command::Settle)?;
+        }
+        Err(ClusterFault::NoMemory)
+    }
+
+    /// Does what is to be done behind a line, until it is answered.
+    pub(crate) fn drive<A: Addresser>(
+        &mut self,
+        naming: &A,
+        kind: Kind,
+        from: usize,
+        line: u64,
+    ) -> Result<(), ClusterFault>
+        requires ready { IsReadyAt D.tells (point_of self.old.watch self.old.cluster
+            (map (λ disk. seen_as (D.size disk) (D.stands disk) (D.faults disk)) self.old.disks.items)
+            self.old.line) }
+        requires some { from ≤ length self.old.cluster.core.journal }
+        ensures drives { DrivesOn D.tells (A.name naming.now)
+            (point_of self.old.watch self.old.cluster
+            (map (λ disk. seen_as (D.size disk) (D.stands disk) (D.faults disk)) self.old.disks.items)
+            self.old.line)
+            (point_of self.new.watch self.new.cluster
+            (map (λ disk. seen_as (D.size disk) (D.stands disk) (D.faults disk)) self.new.disks.items)
+            self.new.line)
+            (map (λ said. said.value) self.old.said.items)
+            (map (λ said. said.value) self.new.said.items) result }
+        ensures ready { OnOk result (IsReadyAt D.tells (point_of self.new.watch self.new.cluster
+            (map (λ disk. seen_as (D.size disk) (D.stands disk) (D.faults disk)) self.new.disks.items)
+            self.new.line)) }
+        ensures answered { OnOk result
+            (IsAnswered (drop from self.new.cluster.core.journal) line kind) }
+        ensures count { length self.new.disks.items ≡ length self.old.disks.items }
+        ensures ended { self.new.ended ≡ self.old.ended }
+    {
+        self.drive_once(naming, kind, from, line)?;
+        self.settle_until(naming, from, line, kind)
     }
 }

@@ -1,6 +1,6 @@
 -- What an ask does to what an asker tells.
 use Rattle.std.specs.List.{AllByRecursion}
-use Rattle.std.specs.Prelude.{ℕ, ◌≡◌, List, ◌∷◌, ◌++◌, Some, IsSome}
+use Rattle.std.specs.Prelude.{ℕ, ◌<◌, ◌≡◌, List, ◌∷◌, ◌++◌, Some, IsSome}
 use Rattle.hs_journal.specs.Events.{addressed, client_op}
 use Rattle.hs_journal.specs.declared.entry.JournalEntry.{JournalEntry}
 use Rattle.hs_journal.specs.declared.entry.Who.TheVariants as who
@@ -47,3 +47,13 @@ pub record HasAsked {tells : Type 0} (old new : Shown tells) (o : Op) (told : Re
   pub others : (other : ℕ) → (other ≡ line → ⊥) → client_op (new.commands other) ≡ client_op (old.commands other)
   pub answer : entry.reply ≡ told
   pub may : MayBeTold o told
+
+-- whether it is answered or not, its line is a new one, above each that a client asked by, and asks for this operation; the journal goes on, and what other lines ask for stays
+pub record HasBegun {tells : Type 0} (old new : Shown tells) (o : Op) : Type 0 where
+  pub line : ℕ
+  pub more : List JournalEntry
+  pub above : (other : ℕ) → IsSome (client_op (old.commands other)) → other < line
+  pub journal : new.journal ≡ old.journal ++ more
+  pub unused : AllByRecursion (IsOfAnother line) old.journal
+  pub asks : client_op (new.commands line) ≡ Some o
+  pub others : (other : ℕ) → (other ≡ line → ⊥) → client_op (new.commands other) ≡ client_op (old.commands other)

@@ -1,7 +1,7 @@
 //! Something that answers a client's operations, one at a time.
 ghost use Rattle.std.specs.Prelude.{◌≡◌, ◌∷◌, ◌++◌, [], IfOk, IfErr, OnOk, Some, None};
 ghost use Rattle.hs_model.specs.Store.{held_at};
-ghost use Rattle.hs_asking.specs.Asked.{HasAsked, IsNamed};
+ghost use Rattle.hs_asking.specs.Asked.{HasAsked, HasBegun, IsNamed};
 ghost use Rattle.hs_asking.specs.Lawful.{AreAnswersOf};
 ghost use Rattle.hs_asking.specs.Shown.{IfTold, Shown, store_now};
 
@@ -26,6 +26,8 @@ pub trait Asker {
         ensures told { IfOk result (λ told. HasAsked (shows self.old) (shows self.new) op told) }
         ensures going { OnOk result ((shows self.new).ended ≡ None) }
         ensures ended { IfErr result (λ fault. (shows self.new).ended ≡ Some fault) }
+        // Also where it ends: its line is a new one, and the journal goes on.
+        ensures begun { HasBegun (shows self.old) (shows self.new) op }
         ensures asked { (shows self.new).asked ≡ (shows self.old).asked ++ op ∷ [] }
         ensures began { (shows self.new).began ≡ (shows self.old).began };
 

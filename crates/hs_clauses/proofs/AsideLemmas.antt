@@ -44,13 +44,13 @@ any_same p q [] h = refl
 any_same p q (x ∷ xs) h = λ i. h x i || any_same p q xs h i
 
 -- what some passes there is
-record Passes (p : ℕ → Bool) (k n : ℕ) : Type 0 where
-  at : ℕ
-  from : k ≤ at
-  to : at < k + n
-  is : p at ≡ true
+pub record Passes (p : ℕ → Bool) (k n : ℕ) : Type 0 where
+  pub at : ℕ
+  pub from : k ≤ at
+  pub to : at < k + n
+  pub is : p at ≡ true
 
-passes_some : (p : ℕ → Bool) (k n : ℕ) → list_any p (range_with_len k n) ≡ true → Passes p k n
+pub passes_some : (p : ℕ → Bool) (k n : ℕ) → list_any p (range_with_len k n) ≡ true → Passes p k n
 passes_some p k zero e = absurd (false≢true e)
 passes_some p k (suc n) e = go (λ rest. passes_some p (k + 1) n rest) (p k) refl e
   where
@@ -64,26 +64,33 @@ passes_some p k (suc n) e = go (λ rest. passes_some p (k + 1) n rest) (p k) ref
 
 -- ---- the beginning of its course
 
-module _ (S : Script) (found : Found) (shape : IsShape S.set.shape) (count : length found.logs ≡ S.set.shape.shards * S.set.shape.copies) (kept : (peer : ℕ) → starts_good found peer ≡ true → IsSome (slice_index_or found.logs peer None)) (going : (first_core S.set found).ended ≡ None) where
-  pub status_is : (p : ℕ) → is_good_status (status p (first_members S.set.shape (opens_with S.set found))) ≡ starts_good found p
-  status_is p = flag_is found.good p
+-- of each shard the log of one of its peers is taken
+abbrev pub EachTaken : Script → Found → Type 0
+EachTaken S found = (shard : ℕ) → shard < S.set.shape.shards → FoundFirst (is_best S.set.shape found.logs shard) (peer_of S.set.shape shard 0) S.set.shape.copies
 
+-- who is good in its first core
+pub status_is : (S : Script) (found : Found) (p : ℕ) → is_good_status (status p (first_members S.set.shape (opens_with S.set found))) ≡ starts_good found p
+status_is S found p = flag_is found.good p
+
+-- so it is where the core goes on
+module _ (S : Script) (found : Found) (shape : IsShape S.set.shape) (count : length found.logs ≡ S.set.shape.shards * S.set.shape.copies) (kept : (peer : ℕ) → starts_good found peer ≡ true → IsSome (slice_index_or found.logs peer None)) (going : (first_core S.set found).ended ≡ None) where
   -- each shard has a good peer
   pub some_good : (shard : ℕ) → shard < S.set.shape.shards → list_any (starts_good found) (peers_of S.set.shape shard) ≡ true
   some_good shard low = go (has_good shard (first_members S.set.shape (opens_with S.set found))) refl
     where
       go : (b : Bool) → has_good shard (first_members S.set.shape (opens_with S.set found)) ≡ b → list_any (starts_good found) (peers_of S.set.shape shard) ≡ true
       go true e =
-          sym (any_same (λ p. is_good_status (status p (first_members S.set.shape (opens_with S.set found)))) (starts_good found) (peers_of S.set.shape shard) status_is) ∙ e
+          sym (any_same (λ p. is_good_status (status p (first_members S.set.shape (opens_with S.set found)))) (starts_good found) (peers_of S.set.shape shard) (status_is S found)) ∙ e
       go false e = absurd (first_none S.set.shape S.set.limits (opens_with S.set found) found.opened shard low e going)
 
   -- so the log of one of its peers is taken
-  pub taken_of : (shard : ℕ) → shard < S.set.shape.shards → FoundFirst (is_best S.set.shape found.logs shard) (peer_of S.set.shape shard 0) S.set.shape.copies
-  taken_of shard low =
+  pub each_taken : EachTaken S found
+  each_taken shard low =
       let good : Passes (starts_good found) (peer_of S.set.shape shard 0) S.set.shape.copies = passes_some (starts_good found) (peer_of S.set.shape shard 0) S.set.shape.copies (some_good shard low) in
       let log : (list : Numbered) × (slice_index_or found.logs good.at None ≡ Some list) = some_there (slice_index_or found.logs good.at None) (kept good.at good.is) in
       taken_there S.set.shape found.logs count shard low good.at log.0 good.from good.to log.1
 
+module _ (S : Script) (found : Found) (shape : IsShape S.set.shape) (taken_of : EachTaken S found) where
   -- that peer, as a function of the shard
   abbrev pub peer_in : ℕ → ℕ
   peer_in shard = unwrap_or (taken_peer S.set.shape found.logs shard) 0
@@ -137,7 +144,7 @@ module _ (S : Script) (found : Found) (shape : IsShape S.set.shape) (count : len
 
   -- ---- what the first items are
 
-  abbrev number_in : ℕ → ℕ
+  abbrev pub number_in : ℕ → ℕ
   number_in k = (rank_of (taken_list S.set.shape found.logs k)).number
 
   pub rows_in : (entry : ℕ) → taken_items S.set.shape found.logs entry ≡ rows (λ k. peer_in k) (λ k. number_in k) entry 0 S.set.shape.shards
@@ -177,7 +184,21 @@ module _ (S : Script) (found : Found) (shape : IsShape S.set.shape) (count : len
 
 -- ---- a run
 
-module _ (S : Script) (r : Ran) (story : Story) (went : Went S r story) (shape : IsShape S.set.shape) (going : (first_core S.set story.found).ended ≡ None) where
+-- each peer that is not good as the core opens is told to be down, at that moment
+abbrev pub TellsDown : Script → Ran → Story → Type 0
+TellsDown S r story =
+    (p : ℕ) → p < S.set.shape.shards * S.set.shape.copies → starts_good story.found p ≡ false → (test : JournalEntry → Bool) → test (down_note p story.found.opened) ≡ true → list_any test (r.journal ++ r.refused) ≡ true
+
+-- so it is where the core goes on
+pub tells_down : (S : Script) (r : Ran) (story : Story) → Went S r story → IsShape S.set.shape → (first_core S.set story.found).ended ≡ None → TellsDown S r story
+tells_down S r story went shape going p low bad test passes =
+    any_left test r.journal r.refused
+    (ap (λ (es : List JournalEntry). list_any test es) went.journal
+    ∙ told_steps test (all_events story) (first_core S.set story.found)
+    (told_opening test S.set.shape S.set.limits (opens_with S.set story.found) story.found.opened p low passes
+    (status_is S story.found p ∙ bad) going))
+
+module _ (S : Script) (r : Ran) (story : Story) (went : Went S r story) (shape : IsShape S.set.shape) (there : EachTaken S story.found) where
   abbrev rest : List CourseItem
   rest = items_of (first_core S.set story.found) (all_events story)
 
@@ -186,7 +207,7 @@ module _ (S : Script) (r : Ran) (story : Story) (went : Went S r story) (shape :
   taken_counts p low taken =
       let first : begins S.set.shape.shards r.course p ≡ true =
       ap (λ (items : List CourseItem). begins S.set.shape.shards items p) went.course
-      ∙ taken_begins S story.found shape went.found.logs went.found.kept going r.old.moment rest p low taken in
+      ∙ taken_begins S story.found shape there r.old.moment rest p low taken in
       ap (λ b. list_any (tells_aside r.course p) (r.journal ++ r.refused) && not b) first ∙ never (list_any (tells_aside r.course p) (r.journal ++ r.refused))
     where
       never : (b : Bool) → (b && false) ≡ false
@@ -194,30 +215,23 @@ module _ (S : Script) (r : Ran) (story : Story) (went : Went S r story) (shape :
       never false = refl
 
   -- each other one that was not good then was set aside
-  module _ (p : ℕ) (low : p < S.set.shape.shards * S.set.shape.copies) (untaken : is_taken S.set.shape story.found.logs p ≡ false) (bad : starts_good story.found p ≡ false) where
+  module _ (down : TellsDown S r story) (p : ℕ) (low : p < S.set.shape.shards * S.set.shape.copies) (untaken : is_taken S.set.shape story.found.logs p ≡ false) (bad : starts_good story.found p ≡ false) where
     -- no Good of it stands below the opening
     never_good : was_good r.course story.found.opened p ≡ false
     never_good =
         ap (λ (items : List CourseItem). list_any (is_good_below story.found.opened p) items) went.course
         ∙ none_of (is_good_below story.found.opened p) (first_items S.set.shape story.found r.old.moment ++ rest)
         (all_append (λ i. is_good_below story.found.opened p i ≡ false) (first_items S.set.shape story.found r.old.moment) rest
-        (others_below story.found.opened p (first_items S.set.shape story.found r.old.moment) (none_first S story.found shape went.found.logs went.found.kept going r.old.moment p untaken bad))
+        (others_below story.found.opened p (first_items S.set.shape story.found r.old.moment) (none_first S story.found shape there r.old.moment p untaken bad))
         (late_items story.found.opened p story.found.opened r.new.moment (first_core S.set story.found) (all_events story) (omega arith) went.rises))
 
     passes : tells_aside r.course p (down_note p story.found.opened) ≡ true
     passes = ap (λ b. (b && true) && not (was_good r.course story.found.opened p)) (eq-eqb p p refl) ∙ ap (λ b. not b) never_good
 
-    told : list_any (tells_aside r.course p) r.journal ≡ true
-    told =
-        ap (λ (es : List JournalEntry). list_any (tells_aside r.course p) es) went.journal
-        ∙ told_steps (tells_aside r.course p) (all_events story) (first_core S.set story.found)
-        (told_opening (tells_aside r.course p) S.set.shape S.set.limits (opens_with S.set story.found) story.found.opened p low passes
-        (status_is S story.found shape went.found.logs went.found.kept going p ∙ bad) going)
-
     pub set_aside : is_aside S r p ≡ true
     set_aside =
-        let noted : list_any (tells_aside r.course p) (r.journal ++ r.refused) ≡ true = any_left (tells_aside r.course p) r.journal r.refused told in
+        let noted : list_any (tells_aside r.course p) (r.journal ++ r.refused) ≡ true = down p low bad (tells_aside r.course p) passes in
         let later : begins S.set.shape.shards r.course p ≡ false =
         ap (λ (items : List CourseItem). begins S.set.shape.shards items p) went.course
-        ∙ none_begins S story.found shape went.found.logs went.found.kept going r.old.moment p untaken bad rest in
+        ∙ none_begins S story.found shape there r.old.moment p untaken bad rest in
         λ i. noted i && not (later i)

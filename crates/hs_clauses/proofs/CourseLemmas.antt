@@ -191,7 +191,7 @@ bads_took [] m g x = refl
 bads_took (l ∷ lost) m g x = bads_took lost m g x
 
 module _ (was is : ℕ → Bool) (moment m p : ℕ) where
-  change_other : (q : ℕ) (a b x : Bool) → (q ≡ p → ⊥) → good_from x (change_item a b q moment) m p ≡ x
+  pub change_other : (q : ℕ) (a b x : Bool) → (q ≡ p → ⊥) → good_from x (change_item a b q moment) m p ≡ x
   change_other q true true x differs = refl
   change_other q true false x differs = ap (λ b. if b then false else x) (and_left (q == p) (nat_lt moment m) (ne_eqb q p differs))
   change_other q false true x differs = ap (λ b. if b then true else x) (and_left (q == p) (nat_lt moment m) (ne_eqb q p differs))

@@ -71,23 +71,23 @@ module _ (S : Script) (r : Ran) (story : Story) (went : Went S r story) (fault :
   opening_is : story.opening ≡ []
   opening_is = opening_none (opening_is_whole r story.lines) (first_core S.set story.found) story.opening fault ended went.opening
 
-  lines_are : story.lines ≡ []
+  pub lines_are : story.lines ≡ []
   lines_are = lines_none S r 1 (steps (first_core S.set story.found) story.opening) story.lines fault (ap (λ (es : Events). (steps (first_core S.set story.found) es).ended) opening_is ∙ ended) went.lines
 
   no_event : all_events story ≡ []
   no_event = λ i. opening_is i ++ flat_map (λ (line : Events). line) (lines_are i)
 
-  last_is : last_core S story ≡ first_core S.set story.found
+  pub last_is : last_core S story ≡ first_core S.set story.found
   last_is = ap (λ (es : Events). steps (first_core S.set story.found) es) no_event
 
-  course_is : r.course ≡ first_items S.set.shape story.found r.old.moment
+  pub course_is : r.course ≡ first_items S.set.shape story.found r.old.moment
   course_is =
       went.course ∙ ap (λ (es : Events). first_items S.set.shape story.found r.old.moment ++ items_of (first_core S.set story.found) es) no_event
       ∙ append-nil (first_items S.set.shape story.found r.old.moment)
 
   -- ---- what was told
 
-  journal_is : r.journal ≡ (first_core S.set story.found).journal
+  pub journal_is : r.journal ≡ (first_core S.set story.found).journal
   journal_is = went.journal ∙ ap (λ (c : Core). c.journal) last_is
 
   pub journal_notes : AllByRecursion IsNote r.journal

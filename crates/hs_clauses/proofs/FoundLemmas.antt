@@ -26,6 +26,17 @@ absorb true b h = refl
 absorb false true h = h refl
 absorb false false h = refl
 
+-- who is good as the core opens was not lost
+module _ (S : Script) (r : Ran) (story : Story) (found : HasFound S r story) where
+  lost_others : (p : ℕ) → starts_good story.found p ≡ true → (lost : List (ℕ × ℕ)) → AllByRecursion (IsLostBefore S r story) lost → list_any (λ (l : ℕ × ℕ). l.0 == p) lost ≡ false
+  lost_others p good [] h = refl
+  lost_others p good (l ∷ lost) h =
+      let other : (l.0 == p) ≡ false = ne_eqb l.0 p (λ same. true≢false (sym good ∙ ap (λ q. starts_good story.found q) (sym same) ∙ h.0.bad)) in
+      ap (λ b. b || list_any (λ (x : ℕ × ℕ). x.0 == p) lost) other ∙ lost_others p good lost h.1
+
+  pub not_lost : (p : ℕ) → starts_good story.found p ≡ true → list_any (λ (l : ℕ × ℕ). l.0 == p) story.found.lost ≡ false
+  not_lost p good = lost_others p good story.found.lost (recursion_from_All (IsLostBefore S r story) story.found.lost found.lost)
+
 module _ (S : Script) (r : Ran) (story : Story) (found : HasFound S r story) (one : S.set.shape.copies ≡ 1) where
   pub many : length story.found.logs ≡ S.set.shape.shards
   many = found.logs ∙ ap (λ n. S.set.shape.shards * n) one ∙ omega arith
@@ -47,16 +58,6 @@ module _ (S : Script) (r : Ran) (story : Story) (found : HasFound S r story) (on
   unchanged : (p : ℕ) → p < S.set.shape.shards → is_taken S.set.shape story.found.logs p ≡ (is_taken S.set.shape story.found.logs p || starts_good story.found p)
   unchanged p low = absorb (is_taken S.set.shape story.found.logs p) (starts_good story.found p) (λ good. taken_is S.set.shape story.found.logs one many p low ∙ found.kept p good)
 
-  -- who is good was not lost
-  lost_others : (p : ℕ) → starts_good story.found p ≡ true → (lost : List (ℕ × ℕ)) → AllByRecursion (IsLostBefore S r story) lost → list_any (λ (l : ℕ × ℕ). l.0 == p) lost ≡ false
-  lost_others p good [] h = refl
-  lost_others p good (l ∷ lost) h =
-      let other : (l.0 == p) ≡ false = ne_eqb l.0 p (λ same. true≢false (sym good ∙ ap (λ q. starts_good story.found q) (sym same) ∙ h.0.bad)) in
-      ap (λ b. b || list_any (λ (x : ℕ × ℕ). x.0 == p) lost) other ∙ lost_others p good lost h.1
-
-  not_lost : (p : ℕ) → starts_good story.found p ≡ true → list_any (λ (l : ℕ × ℕ). l.0 == p) story.found.lost ≡ false
-  not_lost p good = lost_others p good story.found.lost (recursion_from_All (IsLostBefore S r story) story.found.lost found.lost)
-
   -- ---- what the first items tell
 
   first_good : (m p : ℕ) → good_from false (first_items S.set.shape story.found r.old.moment) m p
@@ -72,7 +73,7 @@ module _ (S : Script) (r : Ran) (story : Story) (found : HasFound S r story) (on
       first_good m p
       ∙ ap (λ x. good_from (good_from x bads m p) changes m p)
       (good_there (λ p. has_log story.found.logs p) (λ p. number_at p) r.old.moment m p 0 S.set.shape.shards false below (found.kept p good) (omega arith) (omega (arith, low)))
-      ∙ ap (λ x. good_from x changes m p) (bads_other story.found.lost m p true (not_lost p good))
+      ∙ ap (λ x. good_from x changes m p) (bads_other story.found.lost m p true (not_lost S r story found p good))
       ∙ changes_good (λ q. is_taken S.set.shape story.found.logs q) (λ q. is_taken S.set.shape story.found.logs q || starts_good story.found q) story.found.opened m p (all_peers S.set.shape) true (unchanged p low)
 
   -- one without a log is not

@@ -1,6 +1,6 @@
 -- Of a shard's peers the log of greatest rank is taken, and the first of equals: where some peer has one there is such a peer, and it stays so where other logs count as blank.
-use Rattle.std.proofs.Common.{◌≡◌, ◌∙◌, ◌⊎◌, inl, inr, ap, sym, subst, ℕ, zero, suc, ◌+◌, ◌*◌, ◌-◌, ◌<◌, ◌≤◌, ◌==◌, ◌&&◌, ◌||◌, not, Bool, true, false, cond, List, [], ◌∷◌, Option, Some, None, refl, length, drop, take, get_or, nat_lt, arith}
-use Rattle.std.proofs.lemmas.Bool.{cases_eq, cases_lt}
+use Rattle.std.proofs.Common.{◌≡◌, ◌∙◌, ◌⊎◌, inl, inr, ap, sym, subst, ℕ, zero, suc, ◌+◌, ◌*◌, ◌-◌, ◌<◌, ◌≤◌, not, Bool, true, false, cond, List, [], ◌∷◌, Option, Some, None, refl, length, drop, take, get_or, arith}
+use Rattle.std.proofs.lemmas.Bool.{cases_eq}
 use Rattle.std.proofs.lemmas.Bool.Decides.{nat_tests}
 use Rattle.std.proofs.lemmas.List.{get_or-drop, get_or-map, get_or-take, length-drop, length-map, length-take-le}
 use Rattle.std.specs.List.{enumerate_from, range_with_len}
@@ -10,7 +10,7 @@ use Rattle.hs_cluster.proofs.TakenLemmas.{above_or_least, chosen_at as chosen_of
 use Rattle.hs_entry.specs.declared.rank.Rank.{Rank}
 use Rattle.hs_entry.specs.Entries.{rank_of}
 use Rattle.hs_events.specs.Sane.{IsFromOne}
-use Rattle.hs_events.specs.Taken.{is_best, or_blank, taken_list, taken_lists, taken_peer}
+use Rattle.hs_events.specs.Taken.{is_best, or_blank, taken_list}
 use Rattle.hs_fold.specs.Opened.{chosen, chosen_each, outranks}
 use Rattle.hs_fold.specs.Shards.Setting.{Numbered}
 use Rattle.hs_limits.specs.declared.shape.Shape.{Shape}
@@ -69,7 +69,7 @@ not_true : (b : Bool) → not b ≡ true → b ≡ false
 not_true true e = cc e
 not_true false e = refl
 
-not_false : (b : Bool) → not b ≡ false → b ≡ true
+pub not_false : (b : Bool) → not b ≡ false → b ≡ true
 not_false true e = refl
 not_false false e = cc e
 
@@ -147,7 +147,7 @@ module _ (shape : Shape) (logs : List (Option Numbered)) (count : length logs �
   top_is = chosen_of_shard shape.shards shard shape.copies (or_blank logs) low
 
   -- none is above it
-  below_top : (peer : ℕ) → start ≤ peer → peer < start + shape.copies → outranks (rank_of (list_by peer)) (rank_of top) ≡ false
+  pub below_top : (peer : ℕ) → start ≤ peer → peer < start + shape.copies → outranks (rank_of (list_by peer)) (rank_of top) ≡ false
   below_top peer from to =
       let back : start + (peer - start) ≡ peer = omega (arith, from) in
       let w = within in

@@ -8,6 +8,12 @@ pub mod AwaitLemmas
 pub mod BlockLemmas
 pub mod CaseLemmas
 pub mod ComingLemmas
+pub mod CopiesCoreLemmas
+pub mod CopiesCourseLemmas
+pub mod CopiesEarlyLemmas
+pub mod CopiesEndedLemmas
+pub mod CopiesShownLemmas
+pub mod CopiesStopLemmas
 pub mod CostLemmas
 pub mod CountedLemmas
 pub mod CourseLemmas
@@ -21,8 +27,8 @@ pub mod FrontLemmas
 pub mod GreatestLemmas
 pub mod HomeLemmas
 pub mod HomeWalk
-pub mod InStepReadLemmas
 pub mod ImageLemmas
+pub mod InStepReadLemmas
 pub mod KeptLemmas
 pub mod KeptRunLemmas
 pub mod LineLemmas

@@ -52,7 +52,7 @@ state_then S story moment = state_at whole_machine (open_whole S.set story.found
 
 -- ---- disks at entry
 
-nil_of : (bytes : List ℕ) → length bytes ≤ 0 → bytes ≡ []
+pub nil_of : (bytes : List ℕ) → length bytes ≤ 0 → bytes ≡ []
 nil_of [] low = refl
 nil_of (byte ∷ bytes) low = absurd (omega (arith, low))
 
@@ -74,7 +74,7 @@ one_list S r may counted = record {
 
 -- ---- the state at a moment
 
-runs_core : (c : Whole) (es : Events) → (runs whole_machine c es).core ≡ steps c.core es
+pub runs_core : (c : Whole) (es : Events) → (runs whole_machine c es).core ≡ steps c.core es
 runs_core c [] = refl
 runs_core c (e ∷ es) = runs_core (step_whole e.0 e.1 c) es
 

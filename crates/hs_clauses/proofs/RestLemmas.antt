@@ -52,7 +52,7 @@ pub record IsRested (S : Script) (r : Ran) (m p : ℕ) : Type 0 where
 
 -- ---- of lists of which all took effect nothing waits
 
-drop_all : (list : Numbered) → drop (length list) list ≡ []
+pub drop_all : (list : Numbered) → drop (length list) list ≡ []
 drop_all list = ap (λ (xs : Numbered). drop (length list) xs) (sym (append-nil list)) ∙ drop_at list [] (length list) refl
 
 none_asked : (lists : Lists) (k n : ℕ) → ((g : ℕ) → k ≤ g → g < k + n → lists.front g ≡ length (lists.whole g)) → all_asked lists k n ≡ []
@@ -61,7 +61,7 @@ none_asked lists k (suc n) all =
     ap (λ (xs : Numbered). asked_lines xs ++ all_asked lists (k + 1) n) (ap (λ j. drop j (lists.whole k)) (all k (omega arith) (omega arith)) ∙ drop_all (lists.whole k))
     ∙ none_asked lists (k + 1) n (λ g low high. all g (omega (arith, low)) (omega (arith, high)))
 
-no_pairs : (lines : List ℕ) → lines ≡ [] → AllPairs (λ (one other : ℕ). one ≢ other) lines
+pub no_pairs : (lines : List ℕ) → lines ≡ [] → AllPairs (λ (one other : ℕ). one ≢ other) lines
 no_pairs lines none = subst (λ (xs : List ℕ). AllPairs (λ (one other : ℕ). one ≢ other) xs) (sym none) (λ i j d before low. absurd (omega (arith, low)))
 
 module _ (S : Script) (r : Ran) (on : OnDisks S r) (may : MayStop S r) (notes : AllByRecursion IsNote r.journal) (m : ℕ) (during : IsDuring r.old r.new m)

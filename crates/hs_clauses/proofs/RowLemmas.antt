@@ -44,7 +44,7 @@ module _ (shape : Shape) (logs : List (Option Numbered)) (moment : ℕ) (peer : 
   taken_rows h = rows_are 0 shape.shards (λ j low high. h j (omega (arith, high)))
 
 module _ (peer number : ℕ → ℕ) (moment : ℕ) where
-  rows_long : (k n : ℕ) → length (rows peer number moment k n) ≡ n + n
+  pub rows_long : (k n : ℕ) → length (rows peer number moment k n) ≡ n + n
   rows_long k zero = refl
   rows_long k (suc n) = let rest = rows_long (k + 1) n in omega (arith, rest)
 
@@ -112,7 +112,7 @@ module _ (m p : ℕ) where
   late_good : (q at : ℕ) → m ≤ at → (q == p && nat_lt at m) ≡ false
   late_good q at up = grind (arith, nat_tests, up)
 
-  late_change : (q at : ℕ) (a b : Bool) → m ≤ at → AllByRecursion (λ i. is_good_below m p i ≡ false) (change_item a b q at)
+  pub late_change : (q at : ℕ) (a b : Bool) → m ≤ at → AllByRecursion (λ i. is_good_below m p i ≡ false) (change_item a b q at)
   late_change q at true true up = tt
   late_change q at true false up = (refl, tt)
   late_change q at false true up = (late_good q at up, tt)

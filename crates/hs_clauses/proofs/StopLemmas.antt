@@ -62,14 +62,14 @@ pub record StopLaws : Type 0 where
 
 -- ---- small words
 
-some_shard : (shards : ℕ) → (shards ≡ 1) ⊎ (shards ≡ 2) ⊎ (shards ≡ 4) ⊎ (shards ≡ 8) → 0 < shards
+pub some_shard : (shards : ℕ) → (shards ≡ 1) ⊎ (shards ≡ 2) ⊎ (shards ≡ 4) ⊎ (shards ≡ 8) → 0 < shards
 some_shard shards (inl e) = omega (arith, e)
 some_shard shards (inr (inl e)) = omega (arith, e)
 some_shard shards (inr (inr (inl e))) = omega (arith, e)
 some_shard shards (inr (inr (inr e))) = omega (arith, e)
 
 -- a good peer's disk counts, behind any events
-runs_count : (c : Whole) (es : Events) → GoodPeersCount whole_machine c → GoodPeersCount whole_machine (runs whole_machine c es)
+pub runs_count : (c : Whole) (es : Events) → GoodPeersCount whole_machine c → GoodPeersCount whole_machine (runs whole_machine c es)
 runs_count c [] h = h
 runs_count c (e ∷ es) h = runs_count (whole_machine.step c e.0 e.1) es (good_counts_after c e.0 e.1)
 

@@ -85,6 +85,12 @@ module _ (test : JournalEntry → Bool) where
     silent : Silent (new_core shape limits taken moment) (begin_views (new_core shape limits taken moment))
     silent = all_silent (shards_of (new_core shape limits taken moment)) (new_core shape limits taken moment)
 
+    pub told_entries : (p : ℕ) → p < shape.shards * shape.copies → test (down_note p moment) ≡ true → is_good_status (status p (first_members shape taken)) ≡ false → list_any test (note_down (begin_views (new_core shape limits taken moment))).entries ≡ true
+    told_entries p low passes bad =
+        subst (λ (m : Members). list_any test (each (all_peers m.shape) note_if_down views).entries ≡ true) (sym silent.members)
+        (told_down p 0 (shape.shards * shape.copies) views (subst (λ m. test (down_note p m) ≡ true) (sym silent.moment) passes)
+        (subst (λ (m : Members). is_good_status (status p m) ≡ false) (sym silent.members) bad) (omega arith) (omega (arith, low)))
+
     pub told_opening : (p : ℕ) → p < shape.shards * shape.copies → test (down_note p moment) ≡ true → is_good_status (status p (first_members shape taken)) ≡ false
         → (open_core shape limits taken moment).ended ≡ None → list_any test (open_core shape limits taken moment).journal ≡ true
     told_opening p low passes bad going = by_room (nat_lt noted.limits.ops (length noted.journal + length noted.entries)) going
@@ -92,11 +98,8 @@ module _ (test : JournalEntry → Bool) where
         noted : Core
         noted = note_down (begin_views (new_core shape limits taken moment))
 
-        entries : list_any test (each (all_peers views.members.shape) note_if_down views).entries ≡ true
-        entries =
-            subst (λ (m : Members). list_any test (each (all_peers m.shape) note_if_down views).entries ≡ true) (sym silent.members)
-            (told_down p 0 (shape.shards * shape.copies) views (subst (λ m. test (down_note p m) ≡ true) (sym silent.moment) passes)
-            (subst (λ (m : Members). is_good_status (status p m) ≡ false) (sym silent.members) bad) (omega arith) (omega (arith, low)))
+        entries : list_any test (note_down (begin_views (new_core shape limits taken moment))).entries ≡ true
+        entries = told_entries p low passes bad
 
         by_room : (b : Bool) → (if b then refuse_entries noted else keep_entries noted).ended ≡ None → list_any test (if b then refuse_entries noted else keep_entries noted).journal ≡ true
         by_room true e = absurd (cc e)

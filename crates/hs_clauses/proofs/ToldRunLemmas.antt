@@ -1,5 +1,5 @@
 -- With any number of copies what the reports of a run tell, where a cluster shows it.
-use Rattle.std.proofs.Common.{◌≡◌, inl, inr, ap, ℕ, ◌<◌, ◌≤◌, List, None, arith}
+use Rattle.std.proofs.Common.{◌≡◌, inl, inr, ap, ℕ, ◌<◌, None, arith}
 use Rattle.hs_clauses.proofs.ShownLemmas.{seen_as}
 use Rattle.hs_clauses.specs.Shown.{IsBehindAtEntry, IsToldAs}
 use Rattle.hs_cluster.specs.Disks.{stands_of}

@@ -5,3 +5,4 @@ pub mod Home
 pub mod Numbered
 pub mod Run
 pub mod Shown
+pub mod Stopped

@@ -16,6 +16,6 @@ pub use images::images_of_good_peers_count;
 pub use kept::a_run_keeps;
 pub use reading::a_run_reads_on;
 pub use standing::a_run_stands;
-pub use stopped::a_run_may_stop;
+pub use stopped::{a_run_may_stop, a_run_of_copies_may_stop};
 pub use stored::{each_block_is_of_an_entry, what_is_read_is_sealed};
 pub use telling::each_report_tells_its_block;

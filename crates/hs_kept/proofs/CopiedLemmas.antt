@@ -34,7 +34,8 @@ use Rattle.hs_kept.proofs.FilesLemmas.{asks_plainly, behind_is, here}
 use Rattle.hs_kept.proofs.LawLemmas.{Laws}
 use Rattle.hs_kept.proofs.StatusLemmas.{closed_tells_none, core_tells_none, cut_not, done_not, never, told_by_status}
 use Rattle.hs_kept.specs.Copied.{AreSoundStarts, CopiesPlainly, HasRootOf}
-use Rattle.hs_kept.specs.Kept.{IsSoundStart, set_of, store_behind}
+use Rattle.hs_kept.specs.Entry.{OpensAlike}
+use Rattle.hs_kept.specs.Kept.{IsSoundStart, StartsAlike, set_of, store_behind}
 
 -- ---- statuses
 
@@ -67,34 +68,40 @@ sound_same name shape r q e h = record {
   sound = subst (λ (o : Objects). AreSoundAlong (set_of name shape) (taken_lists shape (map (λ disk. list_in disk.seen) o.disks))) (sym e) h.sound;
 }
 
-module _ (laws : Laws) (tells : Type 0) (name : List ℕ → Address) (shapes : Shapes) (r : Ran) (told : tells) (one_each : shapes.first.copies ≡ 1) (each_one : shapes.second.copies ≡ 1) (names : GivesAddresses name) (sound : AreSoundStarts name shapes r) (key : List ℕ) where
+pub alike_same : (shape : Shape) (r q : Ran) → q.old ≡ r.old → StartsAlike shape r → StartsAlike shape q
+alike_same shape r q e h = subst (λ (o : Objects). OpensAlike shape o.moment o.disks) (sym e) h
+
+module _ (laws : Laws) (tells : Type 0) (name : List ℕ → Address) (shapes : Shapes) (r : Ran) (told : tells) (first_alike : StartsAlike shapes.first (in_first shapes.first r.ending r)) (second_alike : StartsAlike shapes.second (in_second shapes.first r.ending r)) (names : GivesAddresses name) (sound : AreSoundStarts name shapes r) (key : List ℕ) where
   abbrev second : Ran
   second = in_second shapes.first r.ending r
 
   module _ (one : Ran) (in_it : IsInFirst shapes.first r one) (e d : AtEntry) (s t : Shown (IsTold tells e)) (u v : Shown (IsTold tells d)) (asks : AsksAsClient tells name shapes.first one e s t) (writes : AsksAsClient tells name shapes.second second d u v) where
+    one_alike : StartsAlike shapes.first one
+    one_alike = alike_same shapes.first (in_first shapes.first r.ending r) one in_it.old first_alike
+
     first_sound : IsSoundStart name shapes.first one
     first_sound = sound_same name shapes.first (in_first shapes.first r.ending r) one in_it.old sound.first
 
     first_told : IsTold tells e
-    first_told = here laws tells name shapes.first one told one_each names first_sound e s t asks
+    first_told = here laws tells name shapes.first one told one_alike names first_sound e s t asks
 
     second_is_told : IsTold tells d
-    second_is_told = here laws tells name shapes.second second told each_one names sound.second d u v writes
+    second_is_told = here laws tells name shapes.second second told second_alike names sound.second d u v writes
 
     -- ---- a root that was copied
 
     has_root : (blocks : ℕ) → HasCopied name key s t u v blocks → HasRootOf tells name shapes key r
     has_root blocks h =
         let began : v.began ≡ u.began = heard_began u v ((op.Open our_session, reply.Ok) ∷ (joined h.written.rounds ++ (h.written.work ++ (op.Root our_session key h.written.handle, reply.Ok) ∷ []))) h.written.heard in
-        let first_is : store_now s.began t ≡ store_behind name shapes.first t.commands one = ap (λ (b : Began). store_now b t) (sym h.listed.began) ∙ behind_is laws tells name shapes.first one told one_each names first_sound e s t asks h.listed.began in
-        let second_is : store_now v.began v ≡ store_behind name shapes.second v.commands second = behind_is laws tells name shapes.second second told each_one names sound.second d u v writes began in
+        let first_is : store_now s.began t ≡ store_behind name shapes.first t.commands one = ap (λ (b : Began). store_now b t) (sym h.listed.began) ∙ behind_is laws tells name shapes.first one told one_alike names first_sound e s t asks h.listed.began in
+        let second_is : store_now v.began v ≡ store_behind name shapes.second v.commands second = behind_is laws tells name shapes.second second told second_alike names sound.second d u v writes began in
         record {
           one = one;
           in_it = in_it;
           reads = t.commands;
-          read = asks_plainly laws tells name shapes.first one told one_each names first_sound e s t asks;
+          read = asks_plainly laws tells name shapes.first one told one_alike names first_sound e s t asks;
           writes = v.commands;
-          written = asks_plainly laws tells name shapes.second second told each_one names sound.second d u v writes;
+          written = asks_plainly laws tells name shapes.second second told second_alike names sound.second d u v writes;
           copied = subst (λ (x : Store). IsCopied (store_behind name shapes.first t.commands one) x key) second_is (subst (λ (x : Store). IsCopied x (store_now v.began v) key) first_is (h.still first_told second_is_told));
         }
 

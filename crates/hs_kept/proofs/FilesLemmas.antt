@@ -48,10 +48,10 @@ use Rattle.hs_tree.specs.declared.fault.TreeFault.TheVariants as fault
 use Rattle.hs_kept.proofs.NobodyLemmas.{none_asked}
 use Rattle.hs_kept.proofs.LawLemmas.{Laws}
 use Rattle.hs_kept.proofs.StatusLemmas.{closed_tells_none, core_tells_none, cut_not, done_not, is_no_tree, is_read_fault, is_refused, is_too_long, never, never_done, never_written, told_by_status}
-use Rattle.hs_kept.proofs.RunLemmas.{AnswersFrom, answers_from, lists_of, told_run}
+use Rattle.hs_kept.proofs.RunLemmas.{AnswersFrom, answers_from, lists_handed, lists_of, told_run}
 use Rattle.hs_kept.proofs.ToldLemmas.{told_by}
-use Rattle.hs_kept.specs.Entry.{IsSoundEntry}
-use Rattle.hs_kept.specs.Kept.{AsksPlainly, FetchesPlainly, HasFile, HasNoFile, HasNothing, IsSoundStart, KeepsEachRoot, KeepsFile, StoresPlainly, disk_lists, set_of, store_before, store_behind}
+use Rattle.hs_kept.specs.Entry.{IsSoundEntry, OpensAlike}
+use Rattle.hs_kept.specs.Kept.{AsksPlainly, FetchesPlainly, HasFile, HasNoFile, HasNothing, IsSoundStart, KeepsEachRoot, KeepsFile, StartsAlike, StoresPlainly, disk_lists, set_of, store_before, store_behind}
 
 -- ---- what shards do by themselves leaves each root
 
@@ -84,11 +84,7 @@ module _ (commands : ℕ → Option Command) (nobody : (n : ℕ) → client_op (
 
 -- ---- the disks that were handed over
 
-lists_handed : (disks : List DiskSeen) → lists_of disks ≡ map (λ (disk : Standing). list_in disk.seen) (stands_of disks)
-lists_handed [] = refl
-lists_handed (disk ∷ disks) = λ i. list_in disk.stands.seen ∷ lists_handed disks i
-
-module _ (laws : Laws) (tells : Type 0) (name : List ℕ → Address) (shape : Shape) (r : Ran) (told : tells) (one : shape.copies ≡ 1) (names : GivesAddresses name) (sound : IsSoundStart name shape r) where
+module _ (laws : Laws) (tells : Type 0) (name : List ℕ → Address) (shape : Shape) (r : Ran) (told : tells) (alike : StartsAlike shape r) (names : GivesAddresses name) (sound : IsSoundStart name shape r) where
   module _ (e : AtEntry) (set : e.set ≡ set_of name shape) (handed : AreHanded r.old e.disks) where
     pub lists_are : entry_lists e ≡ disk_lists r
     lists_are = lists_handed e.disks ∙ ap (λ (ds : List Standing). map (λ disk. list_in disk.seen) ds) handed.stands
@@ -105,20 +101,24 @@ module _ (laws : Laws) (tells : Type 0) (name : List ℕ → Address) (shape : S
           (subst (λ (logs : List (Option Numbered)). AreSoundAlong (set_of name shape) (taken_lists shape logs)) (sym lists_are) sound.sound);
     }
 
-    pub told_here : IsTold tells e
-    told_here =
-        told_by laws tells e told (subst (λ (s : Setting). s.shape.copies ≡ 1) (sym set) one) (subst (λ (s : Setting). GivesAddresses s.name) (sym set) names) sound_entry
+    alike_entry : e.moment ≡ r.old.moment → OpensAlike e.set.shape e.moment (stands_of e.disks)
+    alike_entry at =
+        subst (λ (s : Setting). OpensAlike s.shape e.moment (stands_of e.disks)) (sym set)
+        (subst (λ (m : ℕ). OpensAlike shape m (stands_of e.disks)) (sym at) (subst (λ (ds : List Standing). OpensAlike shape r.old.moment ds) (sym handed.stands) alike))
+
+    pub told_here : e.moment ≡ r.old.moment → IsTold tells e
+    told_here at = told_by laws tells e told (alike_entry at) (subst (λ (s : Setting). GivesAddresses s.name) (sym set) names) sound_entry
 
   -- ---- a client that was answered
 
   module _ (e : AtEntry) (start now : Shown (IsTold tells e)) (asks : AsksAsClient tells name shape r e start now) where
     pub here : IsTold tells e
-    here = told_here e asks.set asks.disks
+    here = told_here e asks.set asks.disks asks.moment
 
     pub answers_here : AnswersFrom (client_script name shape now.commands) (store_before name shape r) r.journal
     answers_here =
         let answers : AnswersFrom (client_script name shape now.commands) (opened (set_of name shape) (or_blank (lists_of e.disks))) r.journal =
-        answers_from laws (client_script name shape now.commands) (beneath r asks.until (status_by now.ended)) (told_run tells (client_script name shape now.commands) (beneath r asks.until (status_by now.ended)) told one names asks.machine)
+        answers_from laws (client_script name shape now.commands) (beneath r asks.until (status_by now.ended)) (told_run tells (client_script name shape now.commands) (beneath r asks.until (status_by now.ended)) told alike names asks.machine) alike
         e.disks asks.disks.stands (subst (λ (logs : List (Option Numbered)). AreSoundAlong (set_of name shape) (taken_lists shape logs)) (sym (lists_are e asks.set asks.disks)) sound.sound) in
         subst (λ (logs : List (Option Numbered)). AnswersFrom (client_script name shape now.commands) (opened (set_of name shape) (or_blank logs)) r.journal) (lists_are e asks.set asks.disks) answers
 

@@ -1,5 +1,7 @@
 -- While an asker goes on, what a session of its core holds is what the plain store holds behind its journal.
-use Rattle.std.proofs.Common.{◌≡◌, ◌∙◌, ap, sym, refl, ℕ, ◌++◌, List, [], Some, None, append-nil}
+use Rattle.std.proofs.Common.{◌≡◌, ◌∙◌, inl, inr, ap, sym, refl, ℕ, ◌*◌, ◌<◌, ◌≤◌, ◌++◌, List, [], Some, None, append-nil, arith, length}
+use Rattle.std.proofs.lemmas.Bool.{cases_lt}
+use Rattle.std.specs.Prelude.{IsSome}
 use Rattle.hs_answered.proofs.ShownLemmas.{held_is}
 use Rattle.hs_answered.specs.Telling.{events_in}
 use Rattle.hs_asker.proofs.HubLemmas.{on_disks as runs_on_disks}
@@ -10,49 +12,64 @@ use Rattle.hs_asker.specs.Lines.{command_at}
 use Rattle.hs_asker.specs.Shows.{began_by, shown_in}
 use Rattle.hs_asker.specs.Silent.{asking_script, silent, status_by}
 use Rattle.hs_asking.specs.Shown.{store_now}
-use Rattle.hs_clauses.proofs.ShownLemmas.{shown_of}
+use Rattle.hs_clauses.proofs.ReadyLemmas.{last_turn}
+use Rattle.hs_clauses.proofs.ToldRunLemmas.{told_of}
 use Rattle.hs_clauses.specs.Asked.{start_of}
-use Rattle.hs_clauses.specs.Shown.{IsShown, OnDisks}
+use Rattle.hs_clauses.specs.Shown.{HasItsDisks, IsBehindAtEntry, IsToldAs, RunsSoundly}
 use Rattle.hs_cluster.proofs.GoingOnLemmas.{going_before}
-use Rattle.hs_cluster.proofs.ShowLemmas.{runs_core}
+use Rattle.hs_cluster.specs.Disks.{stands_of}
 use Rattle.hs_core_words.specs.State.{Core}
-use Rattle.hs_events.specs.Course.{steps}
 use Rattle.hs_events.specs.Found.{first_core}
-use Rattle.hs_events.specs.Whole.{Whole, open_whole}
+use Rattle.hs_fold.specs.Runs.Facts.{Catalogue as Folded}
+use Rattle.hs_journal.specs.Events.{client_op}
+use Rattle.hs_journal.specs.Order.{IsOfLine}
 use Rattle.hs_journal.specs.declared.entry.JournalEntry.{JournalEntry}
 use Rattle.hs_model.specs.Run.{run}
 use Rattle.hs_model.specs.Store.{Store, held_at as store_held}
-use Rattle.hs_moments.specs.Machine.{runs}
-use Rattle.hs_moments.specs.WholeMachine.{whole_machine}
+use Rattle.hs_model.specs.declared.command.Command.{Command}
+use Rattle.hs_model.specs.declared.command.Command.TheVariants as command
+use Rattle.hs_promise.specs.Answers.{Answers}
+use Rattle.hs_promise.specs.Completes.{SettlesEach}
+use Rattle.hs_promise.specs.Entry.{IsSoundAtEntry, entry_store}
+use Rattle.hs_promise.specs.Lost.{IsPast}
 use Rattle.hs_promise.specs.Machine.{Went}
 use Rattle.hs_promise.specs.Run.{Ran, Script}
-use Rattle.hs_promise.specs.Story.{Story, all_events}
+use Rattle.hs_promise.specs.Story.{Story, all_events, last_core}
 use Rattle.hs_run.proofs.DisksLemmas.{read_as}
 use Rattle.hs_run.specs.Ended.{ran_at}
 use Rattle.hs_run.specs.Going.{Begun, story_of}
 use Rattle.hs_run.specs.Machine.{RunsOnDisks}
+use Rattle.hs_settled.proofs.BegunLemmas.{stands}
 use Rattle.hs_shown.specs.Showing.{as_sessions}
-use Rattle.hs_standing.specs.Run.{IsRunning}
-use Rattle.hs_standing.specs.Standing.{WholeStands, judging_of}
+use Rattle.hs_standing.specs.Run.{MayRun, RunBegins, RunStands}
+use Rattle.hs_standing.specs.Standing.{AllMayKeep, judging_of}
 use Rattle.hs_standing.specs.Start.{Start}
+use Rattle.hs_told.specs.InTurn.{IsInTurn}
 use Rattle.hs_tokens.specs.Seats.{held_at, seat_of}
 use Rattle.hs_kept.proofs.LawLemmas.{Laws}
 use Rattle.hs_kept.proofs.RunLemmas.{sound_at, store_is}
-use Rattle.hs_kept.specs.Entry.{IsSoundEntry}
+use Rattle.hs_kept.proofs.SaidLemmas.{said_within}
+use Rattle.hs_kept.specs.Entry.{IsSoundEntry, OpensAlike}
+
+-- the clause of settles
+abbrev pub SettlesSo : Type 0
+SettlesSo =
+    (S : Script) (r : Ran) (story : Story) → Went S r story → S.commands 0 ≡ None → RunBegins (start_of S r) story.found → AllMayKeep (start_of S r) (MayRun (start_of S r)) (first_core S.set story.found) (all_events story)
+    → Answers S (entry_store S r) r.journal → SettlesEach S (entry_store S r) r
 
 -- what was told is the journal, where nothing is about to be told and nothing was refused
 told_alone : (journal refused entries : List JournalEntry) → refused ≡ [] → entries ≡ [] → (journal ++ refused) ++ entries ≡ journal
 told_alone journal refused entries none between = (λ i. (journal ++ none i) ++ between i) ∙ append-nil (journal ++ []) ∙ append-nil journal
 
--- where a core stands that goes on, the store behind its journal has the sessions that it has
-pub standing_sessions : (start : Start) (c : Whole) → WholeStands start c → (run start.set.limits start.entry (events_in (judging_of start) start.entry c.core.journal)).sessions ≡ as_sessions c.core.sessions
-standing_sessions start c w =
-    let same : (c.core.journal ++ c.core.refused) ++ c.core.entries ≡ c.core.journal = told_alone c.core.journal c.core.refused c.core.entries (w.turn.going w.sane.going) w.turn.told in
+-- where a core stands to which nothing was refused, and which is about to tell nothing, the store behind its journal has the sessions that it has
+pub standing_sessions : (start : Start) (c : Core) (cs : List Folded) → RunStands start c cs → c.refused ≡ [] → c.entries ≡ [] → (run start.set.limits start.entry (events_in (judging_of start) start.entry c.journal)).sessions ≡ as_sessions c.sessions
+standing_sessions start c cs w none between =
+    let same : (c.journal ++ c.refused) ++ c.entries ≡ c.journal = told_alone c.journal c.refused c.entries none between in
     ap (λ (told : List JournalEntry). (run start.set.limits start.entry (events_in (judging_of start) start.entry told)).sessions) (sym same)
-    ∙ ap (λ (s : Store). s.sessions) w.stands.told.left
+    ∙ ap (λ (s : Store). s.sessions) w.tells.left
 
-module _ (laws : Laws) (tells : Type 0) (e : AtEntry) (s : Inside) (h : IsAsker tells e.set.name e s) (told : tells) (entry : IsSoundEntry e) (none : s.ended ≡ None)
-    (on : OnDisks (asking_script e.set s.said) (ran_at (status_by None) s.line (Some s.cluster) (silent e.moment e.disks) (silent s.now s.disks))) where
+module _ (laws : Laws) (tells : Type 0) (e : AtEntry) (s : Inside) (h : IsAsker tells e.set.name e s) (told : tells) (alike : OpensAlike e.set.shape e.moment (stands_of e.disks)) (entry : IsSoundEntry e) (none : s.ended ≡ None)
+    (on : HasItsDisks (asking_script e.set s.said) (ran_at (status_by None) s.line (Some s.cluster) (silent e.moment e.disks) (silent s.now s.disks))) where
   abbrev S : Script
   S = asking_script e.set s.said
 
@@ -76,40 +93,66 @@ module _ (laws : Laws) (tells : Type 0) (e : AtEntry) (s : Inside) (h : IsAsker 
   its_disks : RunsOnDisks tells S r story
   its_disks = runs_on_disks tells e g.found g.first g.opening (command_at s.said) None s.line s.now s.cluster s.cluster s.disks g.lines g.shows.shown g.shows.since
 
-  shown : IsShown S r story
-  shown = shown_of tells S r story on its_disks.span told its_disks.before its_disks.now its_disks.old.stands its_disks.new.stands its_disks.shown its_run (read_as tells S r story its_disks told)
+  behind : IsBehindAtEntry S r
+  behind = elim alike [ | inl one ↦ inl one | inr same ↦ inr same.called ]
+
+  its_story : IsToldAs S r story
+  its_story = told_of tells S r story its_disks.span told its_disks.before its_disks.old.stands its_disks.shown behind its_run (read_as tells S r story its_disks told)
 
   -- ---- its core
 
-  last : s.cluster.core ≡ steps (first_core e.set g.found) (all_events story)
+  last : s.cluster.core ≡ last_core S story
   last = g.done.behind.core
 
-  ends : (steps (first_core e.set g.found) (all_events story)).ended ≡ None
+  ends : (last_core S story).ended ≡ None
   ends = ap (λ (c : Core). c.ended) (sym last) ∙ g.done.going
 
   going : (first_core e.set g.found).ended ≡ None
   going = going_before (first_core e.set g.found) (all_events story) ends
 
-  abbrev first : Whole
-  first = open_whole e.set g.found
+  sound : IsSoundAtEntry S r
+  sound = sound_at S r story on its_story alike going e.disks refl entry.sound
 
-  abbrev whole : Whole
-  whole = runs whole_machine first (all_events story)
+  soundly : RunsSoundly S r story
+  soundly = laws.soundly S r story on its_story sound going
 
-  running : IsRunning (start_of S r) whole
-  running =
-      let at = sound_at S r story on shown going e.disks refl entry.sound in
-      laws.goes_on (start_of S r) first (all_events story) (laws.running (start_of S r) g.found (laws.opens S r story on shown at going)) (laws.stands S r story on shown at going) ends
+  stands_last : (cs : List Folded) × RunStands (start_of S r) (last_core S story) cs
+  stands_last = stands (start_of S r) g.found soundly.begins laws.here.memory (all_events story) (laws.events S r story soundly) laws.told (all_events story) [] (sym (append-nil (all_events story)))
 
-  core_is : whole.core ≡ s.cluster.core
-  core_is = runs_core first (all_events story) ∙ sym last
+  sessions_last : (run e.set.limits (entry_store S r) (events_in (judging_of (start_of S r)) (entry_store S r) (last_core S story).journal)).sessions ≡ as_sessions (last_core S story).sessions
+  sessions_last =
+      standing_sessions (start_of S r) (last_core S story) stands_last.0 stands_last.1
+      (turn.going ends) turn.told
+    where
+      turn : IsInTurn S.commands (last_core S story)
+      turn = last_turn laws.here S r story soundly
 
   sessions_are : (store_now (began_by e) (shown_in e s)).sessions ≡ as_sessions s.cluster.core.sessions
   sessions_are =
-      ap (λ (entry : Store). (run e.set.limits entry (events_in (judging_of (start_of S r)) entry s.cluster.core.journal)).sessions) (sym (store_is S r story on shown going e.disks refl))
-      ∙ ap (λ (c : Core). (run e.set.limits (start_of S r).entry (events_in (judging_of (start_of S r)) (start_of S r).entry c.journal)).sessions) (sym core_is)
-      ∙ standing_sessions (start_of S r) whole running.stands.whole
-      ∙ ap (λ (c : Core). as_sessions c.sessions) core_is
+      ap (λ (entry : Store). (run e.set.limits entry (events_in (judging_of (start_of S r)) entry s.cluster.core.journal)).sessions) (sym (store_is S r story on its_story alike going e.disks refl))
+      ∙ ap (λ (c : Core). (run e.set.limits (entry_store S r) (events_in (judging_of (start_of S r)) (entry_store S r) c.journal)).sessions) last
+      ∙ sessions_last
+      ∙ ap (λ (c : Core). as_sessions c.sessions) (sym last)
 
   pub held_there : (session : List ℕ) (handle : ℕ) → held_at (seat_of session s.cluster.core.sessions) handle ≡ store_held (store_now (began_by e) (shown_in e s)) session handle
   held_there session handle = sym (held_is (store_now (began_by e) (shown_in e s)) s.cluster.core.sessions sessions_are session handle)
+
+  -- ---- what was answered behind a settle
+
+  module _ (settles : SettlesSo) (room : 2 * e.set.shape.shards < e.set.limits.pool) where
+    it_settles : SettlesEach S (entry_store S r) r
+    it_settles = settles S r story its_run (command_zero s.said) soundly.begins (laws.events S r story soundly) (laws.answers S r (record { on = on; how = Some story; told = its_story }) sound)
+
+    past : (line : ℕ) (c : Command) → command_at s.said line ≡ Some c → IsPast r line
+    past line c is =
+        let low : line ≤ length s.said = said_within s.said line c is in
+        let all : s.line ≡ length s.said = g.done.line ∙ sym g.done.each in
+        elim (cases_lt line s.line) [
+          | inl less ↦ inl less
+          | inr more ↦ inr ((let same : line ≡ s.line = omega (arith, low, all, more) in same), refl)
+        ]
+
+    pub answered_there : (line n : ℕ) → command_at s.said line ≡ Some command.Settle → n < line → IsSome (client_op (command_at s.said n)) → (place : ℕ) × IsOfLine s.cluster.core.journal place n
+    answered_there line n is low some =
+        let one = (it_settles room line is (past line command.Settle is)).answered n low some in
+        (one.place, one.at)

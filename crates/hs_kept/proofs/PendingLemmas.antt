@@ -93,7 +93,7 @@ module _ (start : Start) (c : Whole) (running : IsRunning start c) where
   s = store_after start c.core.journal
 
   sessions_are : (store_after start c.core.journal).sessions ≡ as_sessions c.core.sessions
-  sessions_are = standing_sessions start c running.stands.whole
+  sessions_are = standing_sessions start c.core running.stands.whole.cs running.stands.holds (running.stands.whole.turn.going running.stands.whole.sane.going) running.stands.whole.turn.told
 
   told_is : told_of c.core ≡ c.core.journal
   told_is = ap (λ (es : List JournalEntry). c.core.journal ++ es) (w.turn.going w.sane.going) ∙ append-nil c.core.journal

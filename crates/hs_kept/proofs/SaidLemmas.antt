@@ -1,5 +1,6 @@
 -- Lines, and what they ask for.
-use Rattle.std.proofs.Common.{◌≡◌, subst, ℕ, ◌-◌, ◌==◌, Bool, true, false, List, [], ◌∷◌, Option, Some, None, if◌then◌else◌}
+use Rattle.std.proofs.Common.{◌≡◌, inl, inr, subst, ℕ, ◌-◌, ◌≤◌, ◌==◌, Bool, true, false, List, [], ◌∷◌, Option, Some, None, arith, length, if◌then◌else◌}
+use Rattle.std.proofs.lemmas.Bool.{cases_eq, ne_eqb}
 use Rattle.std.specs.List.{AllByRecursion}
 use Rattle.hs_asker.specs.Lines.{command_at, ops_of}
 use Rattle.hs_journal.specs.Events.{client_op}
@@ -33,3 +34,11 @@ each_line P (c ∷ cs) all n o asks =
     go : ((p : Op) → client_op (Some c) ≡ Some p → P p) → (client_op (command_at cs (n - 1)) ≡ Some o → P o) → (b : Bool) → client_op (if b then Some c else command_at cs (n - 1)) ≡ Some o → P o
     go here later true is = here o is
     go here later false is = later is
+
+-- each has a number up to how many there are
+pub said_within : (said : List Command) (n : ℕ) (c : Command) → command_at said n ≡ Some c → n ≤ length said
+said_within [] n c h = absurd (cc h)
+said_within (x ∷ xs) n c h = elim (cases_eq n 1) [
+  | inl one ↦ omega (arith, one)
+  | inr other ↦ (let rest = said_within xs (n - 1) c (subst (λ (b : Bool). (if b then Some x else command_at xs (n - 1)) ≡ Some c) (ne_eqb n 1 other) h) in omega (arith, rest))
+]

@@ -101,7 +101,7 @@ module _ (P : Numbered → Type 0) (none : P []) where
   all_drop (suc n) [] all = tt
   all_drop (suc n) (l ∷ ls) all = all_drop n ls all.1
 
-  all_chosen : (n copies : ℕ) (lists : List Numbered) → AllByRecursion P lists → AllByRecursion P (chosen_each n copies lists)
+  pub all_chosen : (n copies : ℕ) (lists : List Numbered) → AllByRecursion P lists → AllByRecursion P (chosen_each n copies lists)
   all_chosen zero copies lists all = tt
   all_chosen (suc n) copies lists all = (one_chosen (take copies lists) (all_take copies lists all), all_chosen n copies (drop copies lists) (all_drop copies lists all))
 

@@ -1,11 +1,10 @@
--- What the commands that keep a file come to in the words of the plain store, where the disks tell their contents and are sound at entry, with one copy of each shard.
+-- What the commands that keep a file come to in the words of the plain store, where the disks tell their contents, and are sound and open alike at entry.
 use Rattle.std.specs.Prelude.{List, None, Option, length, map, ℕ, ◌≡◌, ◌≤◌}
 use Rattle.hs_asker.specs.Silent.{status_by}
 use Rattle.hs_desk.specs.declared.fault.CoreFault.{CoreFault}
 use Rattle.hs_events.specs.Taken.{or_blank, taken_lists}
 use Rattle.hs_files.specs.Client.{beneath, client_script}
 use Rattle.hs_files.specs.Fetched.{FetchesFile}
-use Rattle.hs_files.specs.Stored.{StoresFile}
 use Rattle.hs_fold.specs.Runs.Opened.{opened}
 use Rattle.hs_fold.specs.Shards.Setting.{Numbered, Setting}
 use Rattle.hs_founded.specs.Spelled.{HoldBytes}
@@ -29,6 +28,7 @@ use Rattle.hs_sound.specs.Stay.{AreSoundAlong}
 use Rattle.hs_tree.specs.Fetching.{IsFileOf, IsNoFile}
 use Rattle.hs_tree.specs.Growing.{IsStoreRefusal, KeepsRoots}
 use Rattle.hs_tree.specs.Trees.{IsStored}
+use Rattle.hs_kept.specs.Entry.{OpensAlike}
 
 -- ---- the store, before and behind
 
@@ -49,6 +49,10 @@ events_answered name shape commands r = events_of commands name greatest_limits 
 
 abbrev pub store_behind : (List ℕ → Address) → Shape → (ℕ → Option Command) → Ran → Store
 store_behind name shape commands r = run greatest_limits (store_before name shape r) (events_answered name shape commands r)
+
+-- there is one copy of each shard, or the copies of each open alike
+abbrev pub StartsAlike : Shape → Ran → Type 0
+StartsAlike shape r = OpensAlike shape r.old.moment r.old.disks
 
 -- the disks hold bytes, and have sound lists
 pub record IsSoundStart (name : List ℕ → Address) (shape : Shape) (r : Ran) : Type 0 where
@@ -117,12 +121,7 @@ pub record FetchesPlainly (tells : Type 0) (name : List ℕ → Address) (shape 
   pub refused : (told : Reply) → r.ending ≡ status.Refused told → HasNothing tells name shape key r
   pub no_file : (address : Address) → r.ending ≡ status.NotATree address → HasNoFile tells name shape key r address
 
--- ---- all that is promised of either
-
-pub record StoresAndKeeps (tells : Type 0) (name : List ℕ → Address) (shape : Shape) (key : List ℕ) (r : Ran) : Type 0 where
-  pub stores : StoresFile tells name shape key r
-  pub plainly : tells → shape.copies ≡ 1 → IsSoundStart name shape r → StoresPlainly tells name shape key r
-
+-- with what the command itself promises, all that is promised of it
 pub record FetchesAndGives (tells : Type 0) (name : List ℕ → Address) (shape : Shape) (key : List ℕ) (r : Ran) : Type 0 where
   pub fetches : FetchesFile tells name shape key r
-  pub plainly : tells → shape.copies ≡ 1 → IsSoundStart name shape r → FetchesPlainly tells name shape key r
+  pub plainly : tells → StartsAlike shape r → IsSoundStart name shape r → FetchesPlainly tells name shape key r

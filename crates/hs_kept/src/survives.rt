@@ -5,8 +5,9 @@ ghost use Rattle.hs_promise.specs.Run.{Ran, Script};
 
 use hs_clauses::{a_run_is_answered, a_run_stands};
 use hs_founded::a_store_of_sound_lists_is_right;
+use hs_memory::catalogues_in_memory_are_folds;
 use hs_settled::shard_0_is_led_by_lines;
-use hs_standing::a_run_goes_on;
+use hs_standing::{a_script_is_answered, each_event_is_told};
 
 /// In a run over disks that hold bytes and sound lists at entry, with any number of copies of each shard:
 /// a file that is stored under a key at entry is so behind what was answered, deletions among it, where no
@@ -16,7 +17,9 @@ pub fn a_kept_file_survives()
 {
     a_run_is_answered();
     a_run_stands();
-    a_run_goes_on();
     shard_0_is_led_by_lines();
+    each_event_is_told();
+    a_script_is_answered();
+    catalogues_in_memory_are_folds();
     a_store_of_sound_lists_is_right();
 }

@@ -7,8 +7,12 @@ use Rattle.hs_desk.specs.declared.fault.CoreFault.{CoreFault}
 use Rattle.hs_events.specs.Found.{first_core, opens_with, starts_good}
 use Rattle.hs_events.specs.Taken.{peer_count}
 use Rattle.hs_journal.specs.declared.entry.JournalEntry.{JournalEntry}
+use Rattle.hs_journal.specs.declared.entry.Who.{Who}
+use Rattle.hs_journal.specs.declared.entry.Who.TheVariants as who
 use Rattle.hs_journal.specs.Notes.{note_count}
 use Rattle.hs_limits.specs.declared.limits.Limits.{Limits}
+use Rattle.hs_model.specs.declared.reply.Reply.{Reply}
+use Rattle.hs_model.specs.declared.reply.Reply.TheVariants as reply
 use Rattle.hs_promise.specs.Answers.{IsEntry}
 use Rattle.hs_promise.specs.Completes.{FullBeyond}
 use Rattle.hs_promise.specs.declared.status.Status.{Status}
@@ -21,19 +25,28 @@ use Rattle.hs_settled.proofs.CausesCountLemmas.{first_count}
 use Rattle.hs_settled.proofs.CausesFirstLemmas.{IsFirst, told_first}
 use Rattle.hs_settled.proofs.CausesGoodLemmas.{last_opened}
 use Rattle.hs_settled.proofs.CausesRunLemmas.{journal_stands, last_kept, refused_stands}
-use Rattle.hs_settled.proofs.DoneLemmas.{down_by, is_down}
+use Rattle.hs_settled.proofs.DoneLemmas.{is_down}
 use Rattle.hs_settled.proofs.EndsCountLemmas.{many, sum_from, sum_ones}
 use Rattle.hs_settled.proofs.KindLemmas.{all_downs}
 use Rattle.hs_settled.proofs.NotingLemmas.{all_append}
 use Rattle.hs_told.specs.InTurn.{told_of}
 
--- each tells that a peer is down
+-- one tells that a peer is down
+down_told : (e : JournalEntry) (peer : ℕ) → e.who ≡ who.Store → e.reply ≡ reply.Down peer 0 → is_down e ≡ true
+down_told e peer store told =
+    ap (λ (w : Who). is_down (record { who = w; moment = e.moment; deed = e.deed; reply = e.reply })) store
+    ∙ ap (λ (r : Reply). is_down (record { who = who.Store; moment = e.moment; deed = e.deed; reply = r })) told
+
+counts : (b : Bool) → b ≡ true → 1 ≤ cond b 1 0
+counts true is = omega arith
+counts false is = absurd (false≢true is)
+
+-- so does each
 all_down : (n : ℕ) (es : List JournalEntry) → AllByRecursion (λ (e : JournalEntry). IsFirst n e) es → length es ≤ many is_down es
 all_down n [] all = omega arith
 all_down n (e ∷ es) all =
     let first : IsFirst n e = all.0 in
-    let down : is_down e ≡ true = (λ i. down_by (first.store i) (first.told i)) in
-    let one : cond (is_down e) 1 0 ≡ 1 = ap (λ (b : Bool). cond b 1 0) down in
+    let one : 1 ≤ cond (is_down e) 1 0 = counts (is_down e) (down_told e first.peer first.store first.told) in
     let rest : length es ≤ many is_down es = all_down n es all.1 in
     omega (arith, one, rest)
 

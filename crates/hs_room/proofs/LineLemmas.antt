@@ -1,5 +1,5 @@
 -- A line of a cluster whose core is that of a run so far.
-use Rattle.std.proofs.Common.{◌≡◌, ◌⊎◌, inl, inr, ◌∙◌, ap, sym, subst, ℕ, ◌+◌, ◌<◌, ◌≤◌, List, Option, Some, None, refl, arith}
+use Rattle.std.proofs.Common.{◌≡◌, ◌⊎◌, inl, inr, ◌∙◌, ap, sym, subst, ℕ, ◌+◌, ◌<◌, ◌≤◌, true, List, Option, Some, None, refl, arith}
 use Rattle.std.specs.Prelude.{⊤, Result}
 use Rattle.hs_clauses.specs.Numbered.{AreNumbered}
 use Rattle.hs_cluster.specs.Calls.{RunsLine}

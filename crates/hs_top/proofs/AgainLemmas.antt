@@ -40,10 +40,45 @@ StopsAlong = (S : Script) (r : Ran) → IsShownRun S r → KeepsHeaders S r → 
 abbrev pub seen_images : List Standing → List Image
 seen_images disks = map (λ disk. disk.seen) disks
 
-image_is : (disks : List Standing) (peer : ℕ) → image_at (seen_images disks) peer ≡ (disk_at disks peer).seen
+pub image_is : (disks : List Standing) (peer : ℕ) → image_at (seen_images disks) peer ≡ (disk_at disks peer).seen
 image_is [] peer = refl
 image_is (disk ∷ disks) zero = refl
 image_is (disk ∷ disks) (suc peer) = image_is disks peer
+
+-- ---- the next run
+
+module _ (S : Script) (r : Ran) (ends : EndsAtRest S r) (called : (peer : ℕ) → (disk_at r.new.disks peer).last ≤ r.new.moment) (limits : Limits) (commands : ℕ → Option Command) (next : Ran) (follows : Follows r next) where
+  abbrev after : Script
+  after = script_after S limits commands
+
+  pub seen_after : (peer : ℕ) (side : Side) → (disk_at next.old.disks peer).seen side ≡ image_at (seen_images r.new.disks) peer side
+  seen_after peer side = ap (λ (ds : List Standing). (disk_at ds peer).seen side) follows.disks ∙ ap (λ (image : Image). image side) (sym (image_is r.new.disks peer))
+
+  pub same_count : length next.old.disks ≡ length (seen_images r.new.disks)
+  same_count = ap (λ (ds : List Standing). length ds) follows.disks ∙ sym (length-map r.new.disks (λ (disk : Standing). disk.seen))
+
+  one_list : (disk : Standing) → (disk ≡ untold) → (image : Image) → ((side : Side) → IsImage (disk.loose side) (image side)) → list_in image ≡ list_in disk.seen
+  one_list disk none image stands =
+      list-same disk.seen image (image-is disk image (λ side. subst (λ (d : Standing). d.loose side ≡ settled (d.seen side)) (sym none) refl) stands)
+
+  lists : OneListAtEntry after next
+  lists peer counts = subst (λ (ds : List Standing). (image : Image) → ((side : Side) → IsImage ((disk_at ds peer).loose side) (image side)) → list_in image ≡ list_in (disk_at ds peer).seen) (sym follows.disks)
+      (elim (cases_lt peer (length r.new.disks)) [
+        | inl low ↦ (ends.lists peer low).one
+        | inr high ↦ one_list (disk_at r.new.disks peer) (get_or_past r.new.disks peer untold high)
+      ])
+
+  pub may_from : AreSoundAlong after.set (taken_lists after.set.shape (entry_logs after next)) → MayStop after next
+  may_from h = record {
+    sound = h;
+    one = lists;
+    none = record {
+      called = λ peer.
+          let last : (disk_at next.old.disks peer).last ≡ (disk_at r.new.disks peer).last = ap (λ (ds : List Standing). (disk_at ds peer).last) follows.disks in
+          let low = called peer in let up = follows.later in omega (arith, last, low, up);
+      put = follows.sink;
+    };
+  }
 
 -- ---- at its end the lists are sound
 
@@ -91,43 +126,13 @@ module _ (laws : StopsAlong) (tells : Type 0) (S : Script) (r : Ran) (one : S.se
       ((laws S (later r) (run_later S r tells told on cluster) (headers_later S r tells told on cluster may) (may_later S r may)).reopens ends.moment
       (record { above = ends.above; up_to = ends.up_to; early = ends.early }) images all_good).sound
 
-  -- ---- the next run
-
   module _ (limits : Limits) (commands : ℕ → Option Command) (next : Ran) (follows : Follows r next) where
-    abbrev after : Script
-    after = script_after S limits commands
+    pub again_may : ((peer : ℕ) → peer < length next.old.disks → is_aside (script_after S limits commands) next peer ≡ false) → MayStop (script_after S limits commands) next
+    again_may none =
+        may_from S r ends called limits commands next follows
+        (stopped_sound (script_after S limits commands) next images (sound_too S.set limits (taken_lists S.set.shape (image_logs images)) sound) (seen_after S r ends called limits commands next follows) (same_count S r ends called limits commands next follows) none)
 
-    seen : (peer : ℕ) (side : Side) → (disk_at next.old.disks peer).seen side ≡ image_at images peer side
-    seen peer side = ap (λ (ds : List Standing). (disk_at ds peer).seen side) follows.disks ∙ ap (λ (image : Image). image side) (sym (image_is r.new.disks peer))
-
-    same : length next.old.disks ≡ length images
-    same = ap (λ (ds : List Standing). length ds) follows.disks ∙ sym (length-map r.new.disks (λ (disk : Standing). disk.seen))
-
-    one_list : (disk : Standing) → (disk ≡ untold) → (image : Image) → ((side : Side) → IsImage (disk.loose side) (image side)) → list_in image ≡ list_in disk.seen
-    one_list disk none image stands =
-        list-same disk.seen image (image-is disk image (λ side. subst (λ (d : Standing). d.loose side ≡ settled (d.seen side)) (sym none) refl) stands)
-
-    lists : OneListAtEntry after next
-    lists peer counts = subst (λ (ds : List Standing). (image : Image) → ((side : Side) → IsImage ((disk_at ds peer).loose side) (image side)) → list_in image ≡ list_in (disk_at ds peer).seen) (sym follows.disks)
-        (elim (cases_lt peer (length r.new.disks)) [
-          | inl low ↦ (ends.lists peer low).one
-          | inr high ↦ one_list (disk_at r.new.disks peer) (get_or_past r.new.disks peer untold high)
-        ])
-
-    may_after : AreSoundAlong after.set (taken_lists after.set.shape (entry_logs after next)) → MayStop after next
-    may_after h = record {
-      sound = h;
-      one = lists;
-      none = record {
-        called = λ peer.
-            let last : (disk_at next.old.disks peer).last ≡ (disk_at r.new.disks peer).last = ap (λ (ds : List Standing). (disk_at ds peer).last) follows.disks in
-            let low = called peer in let up = follows.later in omega (arith, last, low, up);
-        put = follows.sink;
-      };
-    }
-
-    pub again_may : ((peer : ℕ) → peer < length next.old.disks → is_aside after next peer ≡ false) → MayStop after next
-    again_may none = may_after (stopped_sound after next images (sound_too S.set limits (taken_lists S.set.shape (image_logs images)) sound) seen same none)
-
-    pub again_alone : S.set.shape.shards ≡ 1 → AreSoundAlong after.set (replicate S.set.shape.shards []) → MayStop after next
-    again_alone shards blank = may_after (alone_sound after next images shards one blank (sound_too S.set limits (taken_lists S.set.shape (image_logs images)) sound) seen same)
+    pub again_alone : S.set.shape.shards ≡ 1 → AreSoundAlong after.set (replicate S.set.shape.shards []) → MayStop (script_after S limits commands) next
+    again_alone shards blank =
+        may_from S r ends called limits commands next follows
+        (alone_sound (script_after S limits commands) next images shards one blank (sound_too S.set limits (taken_lists S.set.shape (image_logs images)) sound) (seen_after S r ends called limits commands next follows) (same_count S r ends called limits commands next follows))

@@ -106,7 +106,7 @@ module _ (S : Script) (r : Ran) where
     aside = h.aside;
   }
 
-  went_later : (story : Story) → Went S r story → Went S (later r) story
+  pub went_later : (story : Story) → Went S r story → Went S (later r) story
   went_later story h = record {
     found = found_later story h.found;
     opening = ap (λ (w : Bool). is_walk next_turn w 0 (first_core S.set story.found) story.opening) (whole_later story.lines) ∙ h.opening;
@@ -120,7 +120,7 @@ module _ (S : Script) (r : Ran) where
     failed = h.failed;
   }
 
-  never_later : NeverOpened r → NeverOpened (later r)
+  pub never_later : NeverOpened r → NeverOpened (later r)
   never_later h = record {
     scripted = h.scripted;
     cause = h.cause;
@@ -137,21 +137,22 @@ module _ (S : Script) (r : Ran) where
   on_later : OnDisks S r → OnDisks S (later r)
   on_later on = record { shape = on.shape; one = on.one; names = on.names; nobody = on.nobody; disks = on.disks; left = on.left }
 
-  module _ (tells : Type 0) (told : tells) (on : OnDisks S r) where
-    runs_on : (story : Story) → Went S r story → (h : RunsOnDisks tells S r story) → RunsOn tells S.set (record h.span { now = r.new.moment + 1 }) story.found (all_events story)
+  module _ (tells : Type 0) where
+    pub runs_on : (story : Story) → Went S r story → (h : RunsOnDisks tells S r story) → RunsOn tells S.set (record h.span { now = r.new.moment + 1 }) story.found (all_events story)
     runs_on story went h =
         runs_later tells S.set story.found h.span.before h.span.now (r.new.moment + 1) h.span.old h.span.new h.span.disks h.span.left (all_events story)
         (let now = h.now in omega (arith, now))
         (subst (λ (m : ℕ). MomentsRise story.found.opened (all_events story) m) (sym h.now) went.rises)
         (λ t. subst (λ (ds : List Standing). LeaveSince ds) (sym h.new.stands) (h.since t)) h.shown
 
+  module _ (tells : Type 0) (told : tells) (on : OnDisks S r) where
     shown_by : (how : Option Story) → WentAs S r how → IfSome how (HasReadDisks S r) → IfSome how (RunsOnDisks tells S r) → (how ≡ None → IsUnopened tells r) → ShownAs S (later r) how
     shown_by None went read runs unopened =
         let u : IsUnopened tells r = unopened refl in
         unopened_of tells S (later r) (on_later on) u.span told u.before u.old.stands u.new.stands (never_later went) (λ wanting. u.taken)
     shown_by (Some story) went read runs unopened =
         shown_of tells S (later r) story (on_later on) (record runs.span { now = r.new.moment + 1 }) told runs.before refl runs.old.stands runs.new.stands
-        (runs_on story went runs) (went_later story went) read.read
+        (runs_on tells story went runs) (went_later story went) read.read
 
     since_by : (how : Option Story) → IfSome how (RunsOnDisks tells S r) → (how ≡ None → IsUnopened tells r) → LeaveSince r.new.disks
     since_by None runs unopened = (unopened refl).since told

@@ -4,6 +4,7 @@ use Rattle.hs_settled.specs.Opened.{IsAsideAs, OpensRanked}
 use Rattle.hs_settled.specs.Printing.{FailsInOpening, FailsInText, LeavesUnread}
 use Rattle.hs_clauses.specs.Asked.{start_of}
 use Rattle.hs_clauses.specs.Shown.{HasItsDisks, IsShownRun, IsToldAs, IsToldRun, RunsSoundly}
+use Rattle.hs_clauses.specs.Stopped.{IsShownByMoments, KeepsCopies}
 use Rattle.hs_cluster.specs.Kept.{AreStored}
 use Rattle.hs_desk.specs.declared.fault.CoreFault.{CoreFault}
 use Rattle.hs_settled.specs.Ending.{HasItsCause}
@@ -57,6 +58,7 @@ pub record Laws : Type 0 where
   pub full : (S : Script) (r : Ran) → IsToldRun S r → IsSoundAtEntry S r → FullCause S (entry_store S r) r
   pub keeps : (S : Script) (r : Ran) → IsToldRun S r → IsSoundAtEntry S r → KeepsAlong S (entry_store S r) r
   pub stops : (S : Script) (r : Ran) → IsShownRun S r → KeepsHeaders S r → MayStop S r → Stops S (entry_store S r) r
+  pub stops_copies : (S : Script) (r : Ran) → IsShownByMoments S r → KeepsHeaders S r → MayStop S r → KeepsCopies S r → Stops S (entry_store S r) r
   -- deletion
   pub soundly : (S : Script) (r : Ran) (story : Story) → HasItsDisks S r → IsToldAs S r story → IsSoundAtEntry S r → (first_core S.set story.found).ended ≡ None → RunsSoundly S r story
   pub events : (S : Script) (r : Ran) (story : Story) → RunsSoundly S r story → AllMayKeep (start_of S r) (MayRun (start_of S r)) (first_core S.set story.found) (all_events story)

@@ -1,4 +1,6 @@
+pub mod AgainCopiesLemmas
 pub mod AgainLemmas
+pub mod AsideLemmas
 pub mod CalledLemmas
 pub mod EndLemmas
 pub mod FromEntryLemmas

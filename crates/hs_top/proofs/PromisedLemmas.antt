@@ -1,10 +1,12 @@
 -- What is promised of a run, from what hs_run says of it and the laws.
-use Rattle.std.proofs.Common.{◌≡◌, ◌∙◌, ap, refl, true, ℕ, ◌*◌, ◌<◌, arith, Option, Some, None, length}
+use Rattle.std.proofs.Common.{◌≡◌, ◌∙◌, inl, inr, ap, refl, true, ℕ, ◌*◌, ◌<◌, arith, Option, Some, None, length}
 use Rattle.std.specs.Prelude.{IfSome}
 use Rattle.hs_settled.specs.Printing.{FailsInOpening, FailsInText, LeavesUnread}
+use Rattle.hs_clauses.proofs.CopiesShownLemmas.{shown_moments}
 use Rattle.hs_clauses.proofs.FoundLemmas.{opens_good}
 use Rattle.hs_clauses.proofs.ShownLemmas.{shown_of, unopened_of}
-use Rattle.hs_clauses.specs.Shown.{IsShownRun, OnDisks, ShownAs}
+use Rattle.hs_clauses.specs.Shown.{HasItsDisks, IsShownRun, OnDisks, ShownAs}
+use Rattle.hs_clauses.specs.Stopped.{IsShownByMoments, MayLosePeers, ShownOf}
 use Rattle.hs_standing.specs.Held.{GivesAddresses}
 use Rattle.hs_journal.specs.Events.{client_op}
 use Rattle.hs_model.specs.declared.command.Command.{Command}
@@ -12,11 +14,12 @@ use Rattle.hs_promise.specs.Answers.{Prints}
 use Rattle.hs_promise.specs.Calm.{RisesAreTold}
 use Rattle.hs_promise.specs.Causes.{Cause}
 use Rattle.hs_promise.specs.declared.status.Status.TheVariants as status
-use Rattle.hs_promise.specs.Entry.{is_aside}
+use Rattle.hs_promise.specs.Entry.{MayStop, entry_store, is_aside}
 use Rattle.hs_promise.specs.Lost.{NotesCause}
 use Rattle.hs_promise.specs.Machine.{WentAs}
 use Rattle.hs_promise.specs.Untold.{IsGoodUntold}
 use Rattle.hs_promise.specs.Run.{Ran, Script}
+use Rattle.hs_promise.specs.Stops.{Stops}
 use Rattle.hs_promise.specs.Story.{Story}
 use Rattle.hs_run.proofs.CaseLemmas.{if_told}
 use Rattle.hs_run.specs.Machine.{HasItsEnd, HasReadDisks, IsOfCluster, IsUnopened, RunsOnDisks}
@@ -111,7 +114,6 @@ module _ (laws : Laws) (tells : Type 0) (S : Script) (r : Ran) (names : GivesAdd
 
       where_told : PromisedWhereTold S r
       where_told = record {
-        stops = λ may. laws.stops S r run (cluster.served.headers told) may;
         past = cluster.served.past one told;
         aside = aside_by cluster.how cluster.went shown;
         notes = notes_by cluster.how cluster.went (cluster.told told) cluster.runs shown;
@@ -123,6 +125,29 @@ module _ (laws : Laws) (tells : Type 0) (S : Script) (r : Ran) (names : GivesAdd
       notes_end = laws.notes_end S r cluster.how one cluster.went;
       told = where_told;
     }
+
+  -- ---- a stop, with any number of copies
+
+  module _ (told : tells) (may : MayStop S r) where
+    its_disks : HasItsDisks S r
+    its_disks = record { shape = cluster.shape; names = names; nobody = nobody; disks = cluster.count }
+
+    moments_by : (how : Option Story) → WentAs S r how → IfSome how (HasReadDisks S r) → IfSome how (RunsOnDisks tells S r) → IfSome how (HasItsEnd S r) → ShownOf S r how
+    moments_by None went read runs ended = went
+    moments_by (Some story) went read runs ended =
+        shown_moments tells S r story runs.span told runs.before runs.now runs.old.stands runs.new.stands runs.shown may.none.called (runs.since told) went read.read ended.answered
+
+    by_moments : IsShownByMoments S r
+    by_moments = record {
+      on = its_disks;
+      left = cluster.served.handed_back ∙ cluster.count;
+      how = cluster.how;
+      shown = moments_by cluster.how cluster.went (cluster.told told) cluster.runs cluster.ended;
+    }
+
+    stops : MayLosePeers S r → Stops S (entry_store S r) r
+    stops (inl one) = laws.stops S r (run one told) (cluster.served.headers told) may
+    stops (inr keeps) = laws.stops_copies S r by_moments (cluster.served.headers told) may keeps
 
   pub promised_of : Promised tells S r
   promised_of = record {
@@ -143,5 +168,6 @@ module _ (laws : Laws) (tells : Type 0) (S : Script) (r : Ran) (names : GivesAdd
     shape = cluster.served.shape;
     headers = cluster.served.headers;
     from_entry = λ told behind sound. from_entry laws tells S r names cluster told behind sound asked;
+    stops = λ told may keeps. stops told may keeps;
     alone = promised_alone;
   }

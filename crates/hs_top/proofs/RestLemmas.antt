@@ -75,7 +75,7 @@ each_empty (suc shards) copies lists h =
     ap (λ (list : Numbered). list ∷ chosen_each shards copies (drop copies lists)) (chosen_empty (take copies lists) (empty_take copies lists h))
     ∙ ap (λ (rest : List Numbered). [] ∷ rest) (each_empty shards copies (drop copies lists) (empty_drop copies lists h))
 
-blank_list : (image : Image) → IsBlank image → list_in image ≡ Some []
+pub blank_list : (image : Image) → IsBlank image → list_in image ≡ Some []
 blank_list image blank = ap (λ log. listed log) (blank_log (image (current image)) (blank (current image)))
 
 logs_empty : (S : Script) (r : Ran) (peer : ℕ) (disks : List Standing) → ((k : ℕ) → list_in (disk_at disks k).seen ≡ Some []) → AreEmpty (or_blank (logs_from S r peer disks))

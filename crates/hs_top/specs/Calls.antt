@@ -3,9 +3,11 @@ use Rattle.std.specs.Prelude.{IfSome, List, None, Option, [], length, true, ℕ,
 use Rattle.hs_checks.specs.Audited.{IsAudited}
 use Rattle.hs_checks.specs.Compared.{IsCompared}
 use Rattle.hs_clauses.specs.Shown.{IsBehindAtEntry}
+use Rattle.hs_clauses.specs.Stopped.{MayLosePeers}
 use Rattle.hs_journal.specs.Order.{IsOrdered}
 use Rattle.hs_kept.specs.Copied.{CopiesAndKeeps}
-use Rattle.hs_kept.specs.Kept.{FetchesAndGives, StoresAndKeeps}
+use Rattle.hs_kept.specs.Kept.{FetchesAndGives}
+use Rattle.hs_kept.specs.Stopped.{StoresAndKeeps}
 use Rattle.hs_limits.specs.declared.address.Address.{Address}
 use Rattle.hs_limits.specs.declared.shape.Shape.{Shape}
 use Rattle.hs_load.specs.Loaded.{IsLoaded}
@@ -36,7 +38,6 @@ use Rattle.hs_top.specs.Words.{served_on}
 
 -- with one copy a shard, over disks that tell their contents, whatever lists they have; a peer is set aside only where its disk failed, or has no log
 pub record PromisedWhereTold (S : Script) (r : Ran) : Type 0 where
-  pub stops : MayStop S r → Stops S (entry_store S r) r
   pub past : KeepsPast r.old r.new
   pub aside : (peer : ℕ) → peer < length r.old.disks → is_aside S r peer ≡ true → DiskRose r 1 peer ⊎ (list_in (disk_at r.old.disks peer).seen ≡ None)
   pub notes : NotesCause S r
@@ -72,6 +73,7 @@ pub record Promised (tells : Type 0) (S : Script) (r : Ran) : Type 0 where
   pub shape : tells → ShapeCause S r
   pub headers : tells → KeepsHeaders S r
   pub from_entry : tells → IsBehindAtEntry S r → IsSoundAtEntry S r → FromEntry S r
+  pub stops : tells → MayStop S r → MayLosePeers S r → Stops S (entry_store S r) r
   pub alone : S.set.shape.copies ≡ 1 → PromisedAlone tells S r
 
 -- ---- what a call promises

@@ -1,7 +1,9 @@
 -- Disks at rest.
-use Rattle.std.specs.Prelude.{length, true, ℕ, ◌+◌, ◌-◌, ◌<◌, ◌^◌, ◌≡◌, ◌≤◌}
+use Rattle.std.specs.Prelude.{Bool, List, false, length, true, ℕ, ◌+◌, ◌-◌, ◌<◌, ◌^◌, ◌≡◌, ◌≤◌}
 use Rattle.hs_fold.specs.Good.{is_good}
-use Rattle.hs_fold.specs.Shards.Images.{Image}
+use Rattle.hs_fold.specs.Shards.Images.{Image, IsGoodImage, Stop}
+use Rattle.hs_limits.specs.declared.shape.Shape.{Shape}
+use Rattle.hs_limits.specs.Shape.{peer_of}
 use Rattle.hs_ports.specs.declared.disk.Side.{Side}
 use Rattle.hs_ports.specs.Disk.{IsImage, Standing, settled}
 use Rattle.hs_ports.specs.Moments.{disk_at}
@@ -20,6 +22,13 @@ pub record IsAtRest (image : Image) (moment : ℕ) (disk : Standing) : Type 0 wh
 pub record AreAtRest (image : ℕ → Image) (objects : Objects) : Type 0 where
   pub each : (peer : ℕ) → IsAtRest (image peer) objects.moment (disk_at objects.disks peer)
   pub sink : IsSinkBehind objects
+
+-- ---- behind a stop
+
+-- each shard has a good peer that a run does not set aside, with an image that its disk may have left
+abbrev pub KeepsGoodImages : Shape → Stop → List Image → (ℕ → Bool) → Type 0
+KeepsGoodImages shape stop images aside =
+    (shard : ℕ) → shard < shape.shards → (copy : ℕ) × (copy < shape.copies) × IsGoodImage stop images (peer_of shape shard copy) × (aside (peer_of shape shard copy) ≡ false)
 
 -- ---- behind a run
 

@@ -1,7 +1,8 @@
 //! The commands that keep a file, and copy a root, and what they come to in the words of the plain store.
 ghost use Rattle.std.specs.Prelude.{◌≡◌, ◌+◌, ◌*◌, IsTrue, List, Option, map, vec_len, ℕ};
 ghost use Rattle.hs_kept.specs.Copied.{CopiesAndKeeps};
-ghost use Rattle.hs_kept.specs.Kept.{FetchesAndGives, StoresAndKeeps};
+ghost use Rattle.hs_kept.specs.Kept.{FetchesAndGives};
+ghost use Rattle.hs_kept.specs.Stopped.{StoresAndKeeps};
 ghost use Rattle.hs_limits.specs.Key.{is_key};
 ghost use Rattle.hs_limits.specs.Shape.{IsShape};
 ghost use Rattle.hs_ports.specs.Objects.{handed};
@@ -9,13 +10,13 @@ ghost use Rattle.hs_promise.specs.Run.{ran_of};
 
 use hs_block::Addresser;
 use hs_files::{run_copy, run_fetch, run_store};
-use hs_kept::{a_file_is_kept, a_root_is_copied};
+use hs_kept::{a_copied_store_stays, a_file_is_kept, a_key_is_kept_whole, a_root_is_copied};
 use hs_limits::Shape;
 use hs_ports::{Disk, Sink, Source, Watch};
 use hs_promise::{Outcome, Status};
 use std::alloc::Global;
 
-/// Stores what the source has as a file under a key. The call before it is a law.
+/// Stores what the source has as a file under a key. The calls before it are laws.
 pub(crate) fn keep_file<A: Addresser, S: Source, D: Disk + Drop>(
     alloc: Global,
     naming: &A,
@@ -37,6 +38,7 @@ pub(crate) fn keep_file<A: Addresser, S: Source, D: Disk + Drop>(
         sink (S.left source.new, S.faults source.new))) }
 {
     a_file_is_kept::<D>();
+    a_key_is_kept_whole::<D>();
     run_store(alloc, naming, shape, key, source, disks, watch)
 }
 
@@ -65,7 +67,7 @@ pub(crate) fn give_file<A: Addresser, K: Sink, D: Disk + Drop>(
     run_fetch(alloc, naming, shape, key, sink, disks, watch)
 }
 
-/// Copies the root of a key from one store into a second one. The call before it is a law.
+/// Copies the root of a key from one store into a second one. The calls before it are laws.
 pub(crate) fn copy_key<A: Addresser, K: Sink, D: Disk + Drop>(
     alloc: Global,
     naming: &A,
@@ -91,5 +93,6 @@ pub(crate) fn copy_key<A: Addresser, K: Sink, D: Disk + Drop>(
         (K.got sink.new, K.faults sink.new) source)) }
 {
     a_root_is_copied::<D>();
+    a_copied_store_stays::<D>();
     run_copy(alloc, naming, shape, second, key, every, sink, disks, watch)
 }

@@ -15,7 +15,8 @@ use crate::words::{is_load, served_on};
 use hs_block::Addresser;
 use hs_checks::{run_audit, run_scrub};
 use hs_clauses::{
-    a_run_is_answered, a_run_keeps, a_run_may_stop, a_run_stands, what_is_read_is_sealed,
+    a_run_is_answered, a_run_keeps, a_run_may_stop, a_run_of_copies_may_stop, a_run_stands,
+    what_is_read_is_sealed,
 };
 use hs_desk::OpenGate;
 use hs_limits::{Limits, Shape};
@@ -74,6 +75,7 @@ fn run_script<A: Addresser, S: Source, K: Sink, D: Disk>(
     a_run_is_answered();
     a_run_keeps();
     a_run_may_stop();
+    a_run_of_copies_may_stop();
     a_run_deletes_as_promised();
     each_settle_settles();
     a_run_with_room_is_not_full();

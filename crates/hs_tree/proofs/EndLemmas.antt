@@ -1,8 +1,9 @@
 -- How a storing begins with its session, and ends with its root.
-use Rattle.std.proofs.Common.{◌≡◌, inl, inr, ℕ, ◌≤◌, List, [], ◌∷◌, ◌++◌, Option, None, Result, Ok, Err, IfErr, OnErr, OnOk, false, refl, sym, ap, ◌∙◌, subst, length, arith, append-nil, append_assoc, length-append, ◌+◌}
+use Rattle.std.proofs.Common.{◌≡◌, ◌⊎◌, inl, inr, ℕ, ◌≤◌, List, [], ◌∷◌, ◌++◌, Option, None, Result, Ok, Err, IfErr, OnErr, OnOk, false, refl, sym, ap, ◌∙◌, subst, length, arith, append-nil, append_assoc, length-append, ◌+◌}
 use Rattle.std.specs.List.{AllZip, flat_map}
 use Rattle.hs_asking.proofs.AloneLemmas.{opens_alone, roots_alone}
 use Rattle.hs_asking.proofs.SaneLemmas.{answers_sane}
+use Rattle.hs_asking.specs.Asked.{HasBegun}
 use Rattle.hs_asking.specs.Alone.{IsOpened, IsRooted, rooted, unrooted}
 use Rattle.hs_asking.specs.Judged.{IsJudged}
 use Rattle.hs_asking.specs.Lawful.{AreAnswersOf}
@@ -26,8 +27,8 @@ use Rattle.hs_tree.proofs.PlantLemmas.{planted_present, planted_stays}
 use Rattle.hs_tree.proofs.StepLemmas.{both_at, both_told}
 use Rattle.hs_tree.proofs.StopLemmas.{fails_stops, where_any}
 use Rattle.hs_tree.specs.Calls.{AsksWithFew, CallFails, Hears, HoldsFew}
-use Rattle.hs_tree.specs.Growing.{HasLast, HasPlanted, HasTop, IsGrown, IsStopped, IsStoreRefusal, KeepsRoots, Matches, Place, as_writes, name_of, tree_below, writes_in}
-use Rattle.hs_tree.specs.Storing.{HasStored, IsIdle, IsUnfinished, IsUnwritten, our_session}
+use Rattle.hs_tree.specs.Growing.{HasLast, HasPlanted, HasTop, IsGrown, IsOpenAndWork, IsStopped, IsStoreRefusal, KeepsRoots, Matches, Place, as_writes, name_of, tree_below, writes_in}
+use Rattle.hs_tree.specs.Storing.{AsksRoot, HasStored, IsIdle, IsUnfinished, IsUnwritten, our_session}
 use Rattle.hs_tree.specs.Trees.{IsStored, height, stored_cut, top, tree, tree_of}
 use Rattle.hs_tree.specs.declared.fault.TreeFault.{TreeFault}
 use Rattle.hs_tree.specs.declared.fault.TreeFault.TheVariants as fault
@@ -156,6 +157,10 @@ module _ {tells : Type 0} (name : List ℕ → Address) (key : List ℕ) (start 
       which e es few (unrooted (inl told) goes) = cc told
       which e es few (unrooted (inr told) goes) = cc told
 
+  -- it is asked for last
+  asks_root : new.asked ≡ old.asked ++ op.Root our_session key n.handle ∷ [] → HasBegun old new (op.Root our_session key n.handle) → new.began ≡ old.began → AsksRoot name key start new file
+  asks_root asked begun began = record { before = old; top = n; grown = h; asked = asked; begun = begun; began = began }
+
   pub ends_stored : (left left' : Option (List ℕ)) (bytes : ℕ) → bytes ≡ length file → length file ≤ 67108864 → before file left' ≡ left → IsEnded left' → Hears old new (op.Root our_session key n.handle) reply.Ok → HasStored name key start new left left' bytes
   unfolding tree_of
   ends_stored left left' bytes counted fits stream ended w = record {
@@ -177,6 +182,7 @@ module _ {tells : Type 0} (name : List ℕ → Address) (key : List ℕ) (start 
     began = w.began ∙ h.began;
     done = done_more start old new (op.Open our_session ∷ h.worked.ops) (op.Root our_session key n.handle) reply.Ok h.worked.done w refl;
     stored = both_told (λ b. HasPlanted name b (store_now b old) our_session (n ∷ []) [] [] (place ∷ [])) (λ b. IsJudged b.limits (store_now b old) (store_now b new) (op.Root our_session key n.handle) reply.Ok) (λ b. IsStored name (store_now b new) key file) old.began new.began w.began stored_as h.told w.judged;
+    root = asks_root w.asked w.begun w.began;
   }
 
   pub root_stops : (f : TreeFault) → CallFails old new (op.Root our_session key n.handle) f → IsStopped our_session key start new f
@@ -188,13 +194,17 @@ module _ {tells : Type 0} (name : List ℕ → Address) (key : List ℕ) (start 
       which told refusal (unrooted (inl e) goes) = (subst (λ z. IsStoreRefusal key z) (sym e) refl, goes.roots)
       which told refusal (unrooted (inr e) goes) = (subst (λ z. IsStoreRefusal key z) (sym e) tt, goes.roots)
 
+  -- a root was asked for last, or none was
+  abbrev RootOf : Option (List ℕ) → Shown tells → List Op → Type 0
+  RootOf left' now ops = ((session : List ℕ) × IsOpenAndWork session ops) ⊎ ((taken : List ℕ) × AsksRoot name taken start now file × IsEnded left' × (length file ≤ 67108864))
+
   -- the whole tree is written before it is asked for
   pub root_unfinished : (left left' : Option (List ℕ)) (f : TreeFault) → length file ≤ 67108864 → before file left' ≡ left → IsEnded left' → CallFails old new (op.Root our_session key n.handle) f → IsUnfinished name start new left left'
   unfolding tree_of
   root_unfinished left left' f fits stream ended c = go f c
     where
-      with_ops : (now : Shown tells) (ops : List Op) → now.asked ≡ start.asked ++ ops → writes_in ops ≡ writes_in h.worked.ops → IsUnfinished name start now left left'
-      with_ops now ops asked same = record {
+      with_ops : (now : Shown tells) (ops : List Op) → now.asked ≡ start.asked ++ ops → writes_in ops ≡ writes_in h.worked.ops → RootOf left' now ops → IsUnfinished name start now left left'
+      with_ops now ops asked same root = record {
         file = file;
         stream = stream;
         ops = ops;
@@ -202,20 +212,22 @@ module _ {tells : Type 0} (name : List ℕ → Address) (key : List ℕ) (start 
         back = [];
         writes = append-nil (writes_in ops) ∙ (same ∙ (h.worked.writes ∙ ap (λ z. as_writes name z) (append-nil (tree stored_cut name (height stored_cut (length file)) file))));
         whole = λ front session taken handle e. (refl, ended, fits);
+        root = root;
       }
 
-      asked_last : new.asked ≡ old.asked ++ op.Root our_session key n.handle ∷ [] → IsUnfinished name start new left left'
-      asked_last e = with_ops new (op.Open our_session ∷ h.worked.ops ++ op.Root our_session key n.handle ∷ [])
+      asked_last : new.asked ≡ old.asked ++ op.Root our_session key n.handle ∷ [] → HasBegun old new (op.Root our_session key n.handle) → new.began ≡ old.began → IsUnfinished name start new left left'
+      asked_last e begun began = with_ops new (op.Open our_session ∷ h.worked.ops ++ op.Root our_session key n.handle ∷ [])
           (e ∙ (ap (λ z. z ++ op.Root our_session key n.handle ∷ []) h.worked.asked ∙ append_assoc start.asked (op.Open our_session ∷ h.worked.ops) (op.Root our_session key n.handle ∷ [])))
           (writes-append h.worked.ops (op.Root our_session key n.handle ∷ []) ∙ append-nil (writes_in h.worked.ops))
+          (inr (key, asks_root e begun began, ended, fits))
 
       go : (f : TreeFault) → CallFails old new (op.Root our_session key n.handle) f → IsUnfinished name start new left left'
-      go (fault.Core core) c = asked_last c.asked
+      go (fault.Core core) c = asked_last c.asked c.begun c.began
       go fault.Read c = absurd c
       go fault.InputFull c = absurd c
-      go (fault.Refused told) c = asked_last c.0.asked
+      go (fault.Refused told) c = asked_last c.0.asked c.0.begun c.0.began
       go (fault.NotATree address) c = absurd c
-      go fault.NoMemory c = subst (λ z. IsUnfinished name start z left left') (sym c) (with_ops old (op.Open our_session ∷ h.worked.ops) h.worked.asked refl)
+      go fault.NoMemory c = subst (λ z. IsUnfinished name start z left left') (sym c) (with_ops old (op.Open our_session ∷ h.worked.ops) h.worked.asked refl (inl (our_session, (refl, h.worked.work))))
 
 -- ---- the same of results
 

@@ -1,5 +1,5 @@
 -- A file is stored, part by part.
-use Rattle.std.proofs.Common.{◌≡◌, ℕ, ◌≤◌, List, [], ◌∷◌, ◌++◌, Option, refl, sym, ap, ◌∙◌, subst, arith, append-nil}
+use Rattle.std.proofs.Common.{◌≡◌, inl, ℕ, ◌≤◌, List, [], ◌∷◌, ◌++◌, Option, refl, sym, ap, ◌∙◌, subst, arith, append-nil}
 use Rattle.hs_asking.proofs.HandLemmas.{all_right}
 use Rattle.hs_asking.specs.Shown.{Shown}
 use Rattle.hs_limits.specs.declared.address.Address.{Address}
@@ -64,6 +64,7 @@ module _ {tells : Type 0} (name : List ℕ → Address) (start now : Shown tells
     back = as_writes name (tree_of stored_cut name []);
     writes = ap (λ z. z ++ as_writes name (tree_of stored_cut name [])) u.writes;
     whole = λ front s k handle e. absurd (no_root our_session u.ops front s k handle u.work e);
+    root = inl (our_session, u.work);
   }
 
   -- a front of the tree
@@ -76,6 +77,7 @@ module _ {tells : Type 0} (name : List ℕ → Address) (start now : Shown tells
     back = h.back;
     writes = h.writes;
     whole = λ front s k handle e. absurd (no_root session (op.Open session ∷ h.ops) front s k handle (refl, h.work) e);
+    root = inl (session, (refl, h.work));
   }
 
 pub nothing_unwritten : {tells : Type 0} (start : Shown tells) → IsUnwritten start start

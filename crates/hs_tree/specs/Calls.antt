@@ -1,6 +1,6 @@
 -- What one call of an asker comes to.
 use Rattle.std.specs.Prelude.{ℕ, ◌<◌, ◌≡◌, ◌≤◌, List, [], ◌∷◌, ◌++◌, None, Option, Some, IfSome, false, length}
-use Rattle.hs_asking.specs.Asked.{HasAsked}
+use Rattle.hs_asking.specs.Asked.{HasAsked, HasBegun}
 use Rattle.hs_asking.specs.Judged.{IsJudged}
 use Rattle.hs_asking.specs.Seats.{HasSeat}
 use Rattle.hs_asking.specs.Shown.{Began, IfTold, Shown, store_now}
@@ -66,6 +66,7 @@ pub record Hears {tells : Type 0} (old new : Shown tells) (o : Op) (told : Reply
   pub going : new.ended ≡ None
   pub began : new.began ≡ old.began
   pub entry : HasAsked old new o told
+  pub begun : HasBegun old new o
   pub judged : IfTold old (λ b. IsJudged b.limits (store_now b old) (store_now b new) o told)
 
 -- it was asked for, and the asker has ended
@@ -73,6 +74,7 @@ pub record Ends {tells : Type 0} (old new : Shown tells) (o : Op) (core : CoreFa
   pub asked : new.asked ≡ old.asked ++ o ∷ []
   pub ended : new.ended ≡ Some core
   pub began : new.began ≡ old.began
+  pub begun : HasBegun old new o
 
 -- a call fails for memory before it asks, with the asker, or where it is refused
 abbrev pub CallFails : {tells : Type 0} → Shown tells → Shown tells → Op → TreeFault → Type 0

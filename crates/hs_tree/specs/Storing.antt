@@ -1,6 +1,7 @@
 -- A file that is taken piece by piece and stored.
 use Rattle.std.specs.List.{AllByRecursion, concat}
 use Rattle.std.specs.Prelude.{ℕ, ◌<◌, ◌≡◌, ◌≤◌, ◌⊎◌, List, [], ◌∷◌, ◌++◌, None, Option, length}
+use Rattle.hs_asking.specs.Asked.{HasBegun}
 use Rattle.hs_asking.specs.Shown.{IfTold, Began, Shown, store_now}
 use Rattle.hs_limits.specs.Limits.{greatest_limits}
 use Rattle.hs_limits.specs.declared.address.Address.{Address}
@@ -8,7 +9,7 @@ use Rattle.hs_model.specs.declared.op.Op.{Op}
 use Rattle.hs_model.specs.declared.op.Op.TheVariants as op
 use Rattle.hs_ports.specs.Source.{IsEnded, before}
 use Rattle.hs_tree.specs.Calls.{AsksWithFew}
-use Rattle.hs_tree.specs.Growing.{HoldsAtMost, IsGrown, IsHalted, IsOpenAndWork, IsWork, as_writes, places_at, writes_in}
+use Rattle.hs_tree.specs.Growing.{HasTop, HoldsAtMost, IsGrown, IsHalted, IsOpenAndWork, IsWork, as_writes, places_at, writes_in}
 use Rattle.hs_tree.specs.Telling.{AreDone}
 use Rattle.hs_tree.specs.Trees.{IsStored, stored_cut, tree_of}
 use Rattle.hs_tree.specs.declared.fault.TreeFault.{TreeFault}
@@ -113,6 +114,15 @@ pub record HasHalted {tells : Type 0} (name : List ℕ → Address) (session key
 
 -- ---- a file that is stored
 
+-- the root was asked for last, of a top behind which all of the file's tree was written
+pub record AsksRoot {tells : Type 0} (name : List ℕ → Address) (key : List ℕ) (start now : Shown tells) (file : List ℕ) : Type 0 where
+  pub before : Shown tells
+  pub top : Node
+  pub grown : HasTop name our_session start before top file
+  pub asked : now.asked ≡ before.asked ++ op.Root our_session key top.handle ∷ []
+  pub begun : HasBegun before now (op.Root our_session key top.handle)
+  pub began : now.began ≡ before.began
+
 -- its tree's blocks were asked for one by one, children first, with at most 81 handles held at a time, and then the root, and all was done; all is there where the store is told
 pub record HasStored {tells : Type 0} (name : List ℕ → Address) (key : List ℕ) (start now : Shown tells) (left left' : Option (List ℕ)) (bytes : ℕ) : Type 0 where
   pub file : List ℕ
@@ -131,6 +141,7 @@ pub record HasStored {tells : Type 0} (name : List ℕ → Address) (key : List 
   pub began : now.began ≡ start.began
   pub done : AreDone start now (op.Open our_session ∷ (ops ++ op.Root our_session key handle ∷ []))
   pub stored : IfTold now (λ b. IsStored name (store_now b now) key file)
+  pub root : AsksRoot name key start now file
 
 -- ---- one that is not
 
@@ -143,6 +154,7 @@ pub record IsUnfinished {tells : Type 0} (name : List ℕ → Address) (start no
   pub back : List (List ℕ × Option Address)
   pub writes : writes_in ops ++ back ≡ as_writes name (tree_of stored_cut name file)
   pub whole : (front : List Op) (session key : List ℕ) (handle : ℕ) → ops ≡ front ++ op.Root session key handle ∷ [] → (back ≡ []) × IsEnded left' × (length file ≤ 67108864)
+  pub root : ((session : List ℕ) × IsOpenAndWork session ops) ⊎ ((key : List ℕ) × AsksRoot name key start now file × IsEnded left' × (length file ≤ 67108864))
 
 -- nothing was written yet
 pub record IsUnwritten {tells : Type 0} (start now : Shown tells) : Type 0 where

@@ -1,4 +1,4 @@
-//! What the plain store in memory answers a client who asks for what files need.
+//! What the plain store in memory answers a client who asks for what files and copies need.
 ghost use Rattle.std.specs.Prelude.{IfOk};
 ghost use Rattle.hs_asking.specs.Telling.{MayBeTold};
 ghost use Rattle.hs_model.specs.declared.op.Op.TheVariants as op;
@@ -29,7 +29,8 @@ pub(crate) fn answer(store: &mut MemoryStore, limits: Limits, op: Op) -> Result<
             handle,
         } => root(store, limits, session, key, handle),
         Op::Forget { session, handle } => forget(store, limits, session, handle),
-        Op::Close { .. } | Op::Drop { .. } | Op::Name { .. } | Op::Delete | Op::Stat => {
+        Op::Delete => delete(store, limits),
+        Op::Close { .. } | Op::Drop { .. } | Op::Name { .. } | Op::Stat => {
             Err(CoreFault::NoMemory)
         }
     }
@@ -78,6 +79,8 @@ fn write(
     )? {
         Reply::New { handle, epoch } => Ok(Reply::New { handle, epoch }),
         Reply::Dup { handle, epoch } => Ok(Reply::Dup { handle, epoch }),
+        Reply::Stale { handle, held, now } => Ok(Reply::Stale { handle, held, now }),
+        Reply::Collision => Ok(Reply::Collision),
         _ => Err(CoreFault::NoMemory),
     }
 }
@@ -136,6 +139,8 @@ fn root(
         },
     )? {
         Reply::Ok => Ok(Reply::Ok),
+        Reply::Stale { handle, held, now } => Ok(Reply::Stale { handle, held, now }),
+        Reply::KeyTaken { key } => Ok(Reply::KeyTaken { key }),
         _ => Err(CoreFault::NoMemory),
     }
 }
@@ -152,6 +157,22 @@ fn forget(
 {
     match judged(store, limits, Op::Forget { session, handle })? {
         Reply::Ok => Ok(Reply::Ok),
+        _ => Err(CoreFault::NoMemory),
+    }
+}
+
+/// Begins a deletion, and has shard 0 sweep.
+#[tactic(auto, unfolding(hs_asking::specs::Telling::grants, hs_asking::specs::Telling::may_be_told))]
+fn delete(store: &mut MemoryStore, limits: Limits) -> Result<Reply, CoreFault>
+    ensures { IfOk result (λ told. MayBeTold op.Delete told) }
+{
+    let told = judged(store, limits, Op::Delete)?;
+    if store.may_sweep(0) && store.sweep(0).is_err() {
+        return Err(CoreFault::NoMemory);
+    }
+    match told {
+        Reply::Run { epoch } => Ok(Reply::Run { epoch }),
+        Reply::Running { epoch } => Ok(Reply::Running { epoch }),
         _ => Err(CoreFault::NoMemory),
     }
 }

@@ -1,14 +1,17 @@
 //! An asker over the plain store in memory, which tells nothing of it.
-ghost use Rattle.std.specs.Prelude.{◌≡◌, ◌<◌, ◌+◌, ◌∷◌, ◌++◌, [], None, IfOk, OnOk, length, map, vec_capacity, vec_len};
+ghost use Rattle.std.specs.Prelude.{◌≡◌, ◌<◌, ◌+◌, ◌∷◌, ◌++◌, [], None, IfOk, OnErr, OnOk, length, map, vec_capacity, vec_len};
 ghost use Rattle.hs_asking.specs.Telling.{MayBeTold};
 
 use crate::answer::answer;
+use crate::count::Count;
+use crate::held::{Given, held_by, note_answer};
 use hs_asking::Asker;
 use hs_desk::CoreFault;
 use hs_limits::{Held, Limits, ListOf, Name};
 use hs_model::{Op, Reply};
 use hs_plain::MemoryStore;
 use std::alloc::Global;
+use std::collections::BTreeMap;
 use std::marker::Model;
 use std::snapshot::Snapshot;
 
@@ -19,6 +22,10 @@ pub(crate) struct PlainAsker {
     asked: Vec<Snapshot<Op>>,
     told: Vec<Snapshot<Reply>>,
     ended: Option<CoreFault>,
+    count: Count,
+    given: Given,
+    session: Name,
+    alloc: Global,
 }
 
 impl Model for PlainAsker {
@@ -54,6 +61,10 @@ impl PlainAsker {
             asked,
             told,
             ended: None,
+            count: Count::none(),
+            given: BTreeMap::new(alloc),
+            session: our_name(alloc)?,
+            alloc,
         })
     }
 
@@ -66,15 +77,29 @@ impl PlainAsker {
             asked: _,
             told: _,
             ended: _,
+            count: _,
+            given: _,
+            session,
+            alloc: _,
         } = self;
-        let bytes = ListOf::from_vec(Vec::from_slice(alloc, b"a")?);
-        if let Some(session) = Name::from_list(bytes) {
-            match store.judge(Limits::greatest(), Op::Close { session }) {
-                Ok(_) => {}
-                Err(_) => return Err(CoreFault::NoMemory),
-            }
+        match store.judge(Limits::greatest(), Op::Close { session }) {
+            Ok(_) => PlainAsker::new(alloc, store),
+            Err(_) => Err(CoreFault::NoMemory),
         }
-        PlainAsker::new(alloc, store)
+    }
+
+    /// How often it was asked for what.
+    pub(crate) fn count(&self) -> Count {
+        self.count
+    }
+}
+
+/// The name `a`.
+fn our_name(alloc: Global) -> Result<Name, CoreFault> {
+    let bytes = ListOf::from_vec(Vec::from_slice(alloc, b"a")?);
+    match Name::from_list(bytes) {
+        Some(name) => Ok(name),
+        None => Err(CoreFault::NoMemory),
     }
 }
 
@@ -91,6 +116,8 @@ fn say(
         ≡ map (λ said. said.value) asked.old.items ++ op ∷ [] }
     ensures told { IfOk result (λ reply. map (λ said. said.value) told.new.items
         ≡ map (λ said. said.value) told.old.items ++ reply ∷ []) }
+    ensures kept { OnErr result (map (λ said. said.value) told.new.items
+        ≡ map (λ said. said.value) told.old.items) }
     ensures may { IfOk result (λ reply. MayBeTold op reply) }
     ensures same { OnOk result (length told.old.items ≡ length asked.old.items →
         length told.new.items ≡ length asked.new.items) }
@@ -98,10 +125,10 @@ fn say(
     ensures space { OnOk result (vec_len told.new < vec_capacity told.new) }
 {
     asked.push(Snapshot::of(&op)).unwrap();
+    asked.reserve(1)?;
+    told.reserve(2)?;
     let reply = answer(store, Limits::greatest(), op)?;
     told.push(Snapshot::of(&reply)).unwrap();
-    asked.reserve(1)?;
-    told.reserve(1)?;
     Ok(reply)
 }
 
@@ -113,15 +140,23 @@ impl Asker for PlainAsker {
     ghost shows = { λ a. shows_of a };
 
     fn ask(&mut self, op: Op) -> Result<Reply, CoreFault> {
+        self.count.add(&op);
         let told = say(&mut self.store, &mut self.asked, &mut self.told, op);
+        note_answer(
+            self.alloc,
+            &mut self.store,
+            &self.session,
+            &told,
+            &mut self.given,
+        );
         if let Err(fault) = told {
             self.ended = Some(fault);
         }
         told
     }
 
-    fn held(&self, _session: &Name, _handle: u32) -> Option<Held> {
-        None
+    fn held(&self, _session: &Name, handle: u32) -> Option<Held> {
+        held_by(&self.given, handle)
     }
 
     fn known(&self) {}

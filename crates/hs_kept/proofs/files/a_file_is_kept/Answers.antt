@@ -1,20 +1,24 @@
 use Rattle.hs_kept.proofs.FilesLemmas.{fetches_plainly, stores_plainly}
 use Rattle.hs_kept.proofs.LawLemmas.{Laws}
 use Rattle.hs_kept.proofs.files.a_file_is_kept.Goals as goal
-use Rattle.hs_clauses.specs.Asked.{start_of}
-use Rattle.hs_standing.proofs.TakenLemmas.{run_begins}
 
 pub returns : goal.returns
 returns g c =
     let laws : Laws = record {
       answers = c.a_run_is_answered.ensures.answers;
-      opens = c.a_run_stands.ensures.opens;
-      stands = c.a_run_stands.ensures.keeps;
-      running = c.a_run_goes_on.ensures.opens;
-      goes_on = c.a_run_goes_on.ensures.goes_on;
-      led = λ S r story went opens may. c.shard_0_is_led_by_lines.ensures.went S r story went (run_begins (start_of S r) story.found opens) may;
+      soundly = c.a_run_stands.ensures.soundly;
+      events = c.a_run_stands.ensures.events;
+      led = c.shard_0_is_led_by_lines.ensures.went;
       led_ended = c.shard_0_is_led_by_lines.ensures.ended;
       led_never = c.shard_0_is_led_by_lines.ensures.never;
+      told = record { opens = c.each_event_is_told.ensures.opens; events = c.each_event_is_told.ensures.events };
+      here = record {
+        opens = c.a_script_is_answered.ensures.opens;
+        opening = c.a_script_is_answered.ensures.opening;
+        lines = c.a_script_is_answered.ensures.lines;
+        answers = c.a_script_is_answered.ensures.answers;
+        memory = c.catalogues_in_memory_are_folds.ensures.list;
+      };
       distinct = c.a_store_of_sound_lists_is_right.ensures.distinct;
       acyclic = c.a_store_of_sound_lists_is_right.ensures.acyclic;
       named = c.a_store_of_sound_lists_is_right.ensures.named;

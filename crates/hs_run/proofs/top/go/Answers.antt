@@ -1,6 +1,8 @@
-use Rattle.std.proofs.Common.{◌∙◌, ap, length, refl, subst, sym}
+use Rattle.std.proofs.Common.{◌∙◌, ap, length, map, refl, subst, sym}
 use Rattle.std.specs.Prelude.{Err}
+use Rattle.hs_cluster.specs.Disks.{DiskSeen, seen_as}
 use Rattle.hs_core_words.specs.State.{Core}
+use Rattle.hs_run.specs.Between.{Point}
 use Rattle.hs_run.specs.Going.{Between, IsBetween, Opened, Unopened}
 use Rattle.hs_run.proofs.CaseLemmas.{if_any}
 use Rattle.hs_run.proofs.EndsLemmas.{ends_opening, ends_unread}
@@ -20,10 +22,12 @@ returns-in-Err-clause-ends g c = if_any _ _ (λ script told. ends_opening script
 
 pub returns-in-Err-use_cache-clause-runs : goal.returns-in-Err-use_cache-clause-runs
 returns-in-Err-use_cache-clause-runs g c = λ b starts.
+    let f : g.row.D.Denot → DiskSeen = λ disk. seen_as (g.D.Disk.size disk) (g.D.Disk.stands disk) (g.D.Disk.faults disk) in
+    let mid : Point = record { now = c.print_opening.new.watch; cluster = c.use_cache.new.self.cluster; disks = map f c.args.disks.now; got = g.K.Sink.got c.print_opening.new.sink; line = c.use_cache.new.self.line } in
     let same = c.in-Err-use_cache.ensures.same ∙ c.print_opening.ensures.cluster in
-    let gone = opened_gone g.D.Disk.tells b c.args.did _ _ _ same (c.use_cache.ensures.line ∙ c.print_opening.ensures.line ∙ c.requires.line) starts.opened starts.got refl c.in-Ok.ensures.puts in
-    let shows = opened_shown g.D.Disk.tells b c.args.did _ _ _ same refl starts.opened refl c.in-Ok.ensures.puts in
-    Opened _ (Between (so_far_none g.D.Disk.tells b _ _ gone shows) (subst (λ s. IsBetween (Err s)) (sym c.in-Err-use_cache.ensures.only) tt))
+    let gone = opened_gone g.D.Disk.tells b c.args.did _ mid _ same (c.use_cache.ensures.line ∙ c.print_opening.ensures.line ∙ c.requires.line) starts.opened starts.got refl c.in-Ok.ensures.puts in
+    let shows = opened_shown g.D.Disk.tells b c.args.did _ mid _ same refl starts.opened refl c.in-Ok.ensures.puts in
+    Opened mid (Between (so_far_none g.D.Disk.tells b _ mid gone shows) (subst (λ s. IsBetween (Err s)) (sym c.in-Err-use_cache.ensures.only) tt))
 
 pub returns-in-Err-use_cache-clause-ends : goal.returns-in-Err-use_cache-clause-ends
 returns-in-Err-use_cache-clause-ends g c = if_any _ _ (λ script told. ends_unread script _ c.in-Err-use_cache.stop _ told (c.use_cache.ensures.line ∙ c.print_opening.ensures.line ∙ c.requires.line) c.in-Err-use_cache.ensures.only)

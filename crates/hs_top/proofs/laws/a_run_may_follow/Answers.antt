@@ -1,3 +1,4 @@
+use Rattle.hs_top.proofs.AgainCopiesLemmas.{copies_again}
 use Rattle.hs_top.proofs.AgainLemmas.{again_alone, again_may}
 use Rattle.hs_top.proofs.EndLemmas.{ends_rest}
 use Rattle.hs_top.proofs.RestLemmas.{one_low, rest_one}
@@ -6,6 +7,10 @@ use Rattle.hs_top.proofs.laws.a_run_may_follow.Goals as goal
 pub returns-clause-again : goal.returns-clause-again
 returns-clause-again g c = λ S r one names cluster told may ends limits commands next follows none.
     again_may c.a_run_may_stop.ensures g.D.Disk.tells S r one names cluster told may ends limits commands next follows none
+
+pub returns-clause-copies : goal.returns-clause-copies
+returns-clause-copies g c = λ S r names cluster told may keeps ends limits commands next follows none.
+    copies_again c.a_run_of_copies_may_stop.ensures g.D.Disk.tells S r names cluster told may keeps ends limits commands next follows none
 
 pub returns-clause-alone : goal.returns-clause-alone
 returns-clause-alone g c = λ S r shards one names cluster told may ends limits commands next follows.

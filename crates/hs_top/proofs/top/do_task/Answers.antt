@@ -1,7 +1,8 @@
 use Rattle.std.proofs.Common.{sym, subst, ℕ, List, Option, map}
 use Rattle.hs_checks.specs.Audited.{EndsAudit, IsAudited}
 use Rattle.hs_kept.specs.Copied.{CopiesAndKeeps}
-use Rattle.hs_kept.specs.Kept.{FetchesAndGives, StoresAndKeeps}
+use Rattle.hs_kept.specs.Kept.{FetchesAndGives}
+use Rattle.hs_kept.specs.Stopped.{StoresAndKeeps}
 use Rattle.hs_limits.specs.Limits.{greatest_limits}
 use Rattle.hs_ports.specs.Objects.{Objects, handed}
 use Rattle.hs_promise.specs.Run.{Ran, ran_of}

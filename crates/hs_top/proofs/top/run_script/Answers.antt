@@ -9,6 +9,7 @@ returns g c =
       full = c.a_run_is_answered.ensures.full;
       keeps = c.a_run_keeps.ensures.run;
       stops = c.a_run_may_stop.ensures;
+      stops_copies = c.a_run_of_copies_may_stop.ensures;
       soundly = c.a_run_stands.ensures.soundly;
       events = c.a_run_stands.ensures.events;
       deletes = c.a_run_deletes_as_promised.ensures.went;

@@ -13,6 +13,7 @@ returns-in-Ok g c =
         began = c.ask.ensures.began;
         judged = judged_where old new c.args.op c.in-Ok.told c.ask.ensures.began c.known.ensures c.requires.named.1 h;
         entry = h;
+        begun = c.ask.ensures.begun;
       };
       err = tt;
     }

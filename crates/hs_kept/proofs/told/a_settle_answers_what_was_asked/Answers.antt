@@ -1,0 +1,27 @@
+use Rattle.hs_kept.proofs.LawLemmas.{Laws}
+use Rattle.hs_kept.proofs.ToldLemmas.{settled}
+use Rattle.hs_kept.proofs.told.a_settle_answers_what_was_asked.Goals as goal
+
+pub returns : goal.returns
+returns g c =
+    let laws : Laws = record {
+      answers = c.a_run_is_answered.ensures.answers;
+      soundly = c.a_run_stands.ensures.soundly;
+      events = c.a_run_stands.ensures.events;
+      led = c.shard_0_is_led_by_lines.ensures.went;
+      led_ended = c.shard_0_is_led_by_lines.ensures.ended;
+      led_never = c.shard_0_is_led_by_lines.ensures.never;
+      told = record { opens = c.each_event_is_told.ensures.opens; events = c.each_event_is_told.ensures.events };
+      here = record {
+        opens = c.a_script_is_answered.ensures.opens;
+        opening = c.a_script_is_answered.ensures.opening;
+        lines = c.a_script_is_answered.ensures.lines;
+        answers = c.a_script_is_answered.ensures.answers;
+        memory = c.catalogues_in_memory_are_folds.ensures.list;
+      };
+      distinct = c.a_store_of_sound_lists_is_right.ensures.distinct;
+      acyclic = c.a_store_of_sound_lists_is_right.ensures.acyclic;
+      named = c.a_store_of_sound_lists_is_right.ensures.named;
+      spelled = c.a_store_of_sound_lists_is_right.ensures.spelled;
+    } in
+    λ e told alike names entry room s h. settled laws g.D.Disk.tells e told alike names entry s h c.each_settle_settles.ensures room
