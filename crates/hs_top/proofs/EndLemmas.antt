@@ -70,7 +70,7 @@ counted_past S r past = go (ending_of r.ending).wanting refl
 
 module _ (laws : GoodLaws) (tells : Type 0) (S : Script) (r : Ran) (one : S.set.shape.copies ≡ 1) (names : GivesAddresses S.set.name) (through : IsRunThrough tells S r) (told : tells) (may : MayStop S r) (past : (ending_of r.ending).past ≡ true)
     (none : (peer : ℕ) → NoneFails S r peer) where
-  cluster : IsOfCluster tells S r
+  abbrev cluster : IsOfCluster tells S r
   cluster = through.machine
 
   good_by : (how : Option Story) → WentAs S r how → (peer : ℕ) → peer < peer_count S.set.shape → is_good r.course (r.new.moment + 1) peer ≡ true
