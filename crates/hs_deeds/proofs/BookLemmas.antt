@@ -123,14 +123,14 @@ its_line (event.Line line o) = Some (line, o)
 its_line other = None
 
 -- what is asked at a line
-abbrev asked_at : Events → ℕ → Option Command
+abbrev pub asked_at : Events → ℕ → Option Command
 asked_at [] n = None
 asked_at (e ∷ es) n = option_map_or (λ (x : ℕ × Op). cond (x.0 == n) (Some (command.Client x.1)) (asked_at es n)) (its_line e.0) (asked_at es n)
 
 abbrev book_commands : Events → ℕ → Option Command
 book_commands es n = cond (n == 0) None (asked_at es n)
 
-all_client : (es : Events) (n : ℕ) → IsSome (asked_at es n) → is_some (client_op (asked_at es n)) ≡ true
+pub all_client : (es : Events) (n : ℕ) → IsSome (asked_at es n) → is_some (client_op (asked_at es n)) ≡ true
 all_client [] n has = absurd (cc has)
 all_client (e ∷ es) n has = by (λ h. all_client es n h) (its_line e.0) has
   where
@@ -153,16 +153,53 @@ book_clients es n has = by (n == 0) has
 
 -- ---- its events
 
-module _ (commands : ℕ → Option Command) (none : client_op (commands 0) ≡ None) where
-  -- behind the last line these are the operations of the events that come
+-- the line of the last event is the last line
+lines_meet : (e : Event) (c : Core) → IsBookEvent c e → c.progress.event_line ≡ c.progress.last_line → (if line_of e == 0 then c.progress.event_line else line_of e) ≡ last_line_after e c
+lines_meet (event.Line line o) c may same = ap (λ (b : Bool). if b then c.progress.event_line else line) (ne_eqb line 0 (λ zero. let next : line ≡ c.progress.last_line + 1 = may.next in absurd (omega (arith, next, zero))))
+lines_meet (event.Report peer d) c may same = same
+lines_meet (event.Deliver line number) c may same = ap (λ (l : ℕ). if l == 0 then c.progress.event_line else l) may.no_line ∙ same
+lines_meet (event.Turn line peer) c may same = absurd may
+lines_meet (event.Lose line number) c may same = absurd may
+lines_meet (event.Repeat line number) c may same = absurd may
+lines_meet (event.Nudge line peer) c may same = absurd may
+lines_meet (event.Fail line peer) c may same = absurd may
+lines_meet (event.Start line peer) c may same = absurd may
+
+pub book_meets : (es : Events) (c : Core) → AreBookSteps c es → c.progress.event_line ≡ c.progress.last_line → (steps c es).progress.event_line ≡ (steps c es).progress.last_line
+book_meets [] c may same = same
+book_meets (e ∷ es) c may same =
+    book_meets es (step e.0 e.1 c) may.1 (step_line e.0 e.1 c may.0.going ∙ lines_meet e.0 c may.0.may same ∙ sym (line_at c e.0 e.1 may.0.going))
+
+-- it never falls
+book_line_rises : (e : Event) (c : Core) → IsBookEvent c e → c.progress.last_line ≤ last_line_after e c
+book_line_rises (event.Line line o) c may = let next : line ≡ c.progress.last_line + 1 = may.next in omega (arith, next)
+book_line_rises (event.Report peer d) c may = omega arith
+book_line_rises (event.Deliver line number) c may = omega arith
+book_line_rises (event.Turn line peer) c may = absurd may
+book_line_rises (event.Lose line number) c may = absurd may
+book_line_rises (event.Repeat line number) c may = absurd may
+book_line_rises (event.Nudge line peer) c may = absurd may
+book_line_rises (event.Fail line peer) c may = absurd may
+book_line_rises (event.Start line peer) c may = absurd may
+
+pub book_rises : (es : Events) (c : Core) → AreBookSteps c es → c.progress.last_line ≤ (steps c es).progress.last_line
+book_rises [] c may = omega arith
+book_rises (e ∷ es) c may =
+    let rest = book_rises es (step e.0 e.1 c) may.1 in
+    let line : (step e.0 e.1 c).progress.last_line ≡ last_line_after e.0 c = line_at c e.0 e.1 may.0.going in
+    let one = book_line_rises e.0 c may.0.may in
+    omega (arith, rest, line, one)
+
+module _ (commands : ℕ → Option Command) (none : client_op (commands 0) ≡ None) (top : ℕ) where
+  -- behind the last line, up to a number, these are the operations of the events that come
   abbrev AsAsked : Core → Events → Type 0
-  AsAsked c es = (n : ℕ) → c.progress.last_line < n → client_op (commands n) ≡ client_op (asked_at es n)
+  AsAsked c es = (n : ℕ) → c.progress.last_line < n → n ≤ top → client_op (commands n) ≡ client_op (asked_at es n)
 
   at_none : (line : ℕ) → line ≡ 0 → client_op (commands line) ≡ None
   at_none line zero = ap (λ (n : ℕ). client_op (commands n)) zero ∙ none
 
-  keeps : (e : Event) (at : ℕ) (es : Events) (c : Core) → IsBookEvent c e → c.moment ≤ at → c.progress.event_line ≡ c.progress.last_line → AsAsked c ((e, at) ∷ es) → KeepsTurn commands e at c
-  keeps (event.Line line o) at es c may later same asks =
+  keeps : (e : Event) (at : ℕ) (es : Events) (c : Core) → IsBookEvent c e → c.moment ≤ at → c.progress.event_line ≡ c.progress.last_line → last_line_after e c ≤ top → AsAsked c ((e, at) ∷ es) → KeepsTurn commands e at c
+  keeps (event.Line line o) at es c may later same low asks =
       let next : line ≡ c.progress.last_line + 1 = may.next in
       record {
         nobodys = tt;
@@ -171,57 +208,48 @@ module _ (commands : ℕ → Option Command) (none : client_op (commands 0) ≡ 
           begins = record {
             above = omega (arith, next, same);
             next = λ k low high. absurd (omega (arith, next, same, low, high));
-            asks = ap (λ (x : Option Op). option_map bare x) (asks line (omega (arith, next)) ∙ ap (λ (b : Bool). client_op (cond b (Some (command.Client o)) (asked_at es line))) (eq-eqb line line refl));
+            asks = ap (λ (x : Option Op). option_map bare x) (asks line (omega (arith, next)) low ∙ ap (λ (b : Bool). client_op (cond b (Some (command.Client o)) (asked_at es line))) (eq-eqb line line refl));
           };
         });
       }
-  keeps (event.Report peer d) at es c may later same asks = record { nobodys = tt; turn = λ turn. step_turn commands (event.Report peer d) at c turn (λ going. record { later = later; begins = tt }) }
-  keeps (event.Deliver line number) at es c may later same asks = record {
+  keeps (event.Report peer d) at es c may later same low asks = record { nobodys = tt; turn = λ turn. step_turn commands (event.Report peer d) at c turn (λ going. record { later = later; begins = tt }) }
+  keeps (event.Deliver line number) at es c may later same low asks = record {
     nobodys = at_none line may.no_line;
     turn = λ turn. step_unrefused commands c at turn later (event.Deliver line number) (record { other = λ l o is. cc is; of_none = may.no_line; free = delivers may.peer number c may.oldest });
   }
-  keeps (event.Turn line peer) at es c may later same asks = absurd may
-  keeps (event.Lose line number) at es c may later same asks = absurd may
-  keeps (event.Repeat line number) at es c may later same asks = absurd may
-  keeps (event.Nudge line peer) at es c may later same asks = absurd may
-  keeps (event.Fail line peer) at es c may later same asks = absurd may
-  keeps (event.Start line peer) at es c may later same asks = absurd may
-
-  -- the line of the last event is the last line
-  lines_meet : (e : Event) (c : Core) → IsBookEvent c e → c.progress.event_line ≡ c.progress.last_line → (if line_of e == 0 then c.progress.event_line else line_of e) ≡ last_line_after e c
-  lines_meet (event.Line line o) c may same = ap (λ (b : Bool). if b then c.progress.event_line else line) (ne_eqb line 0 (λ zero. let next : line ≡ c.progress.last_line + 1 = may.next in absurd (omega (arith, next, zero))))
-  lines_meet (event.Report peer d) c may same = same
-  lines_meet (event.Deliver line number) c may same = ap (λ (l : ℕ). if l == 0 then c.progress.event_line else l) may.no_line ∙ same
-  lines_meet (event.Turn line peer) c may same = absurd may
-  lines_meet (event.Lose line number) c may same = absurd may
-  lines_meet (event.Repeat line number) c may same = absurd may
-  lines_meet (event.Nudge line peer) c may same = absurd may
-  lines_meet (event.Fail line peer) c may same = absurd may
-  lines_meet (event.Start line peer) c may same = absurd may
+  keeps (event.Turn line peer) at es c may later same low asks = absurd may
+  keeps (event.Lose line number) at es c may later same low asks = absurd may
+  keeps (event.Repeat line number) at es c may later same low asks = absurd may
+  keeps (event.Nudge line peer) at es c may later same low asks = absurd may
+  keeps (event.Fail line peer) at es c may later same low asks = absurd may
+  keeps (event.Start line peer) at es c may later same low asks = absurd may
 
   -- what is asked behind it
-  asks_on : (e : Event) (at : ℕ) (es : Events) (c : Core) → IsBookEvent c e → AsAsked c ((e, at) ∷ es) → (n : ℕ) → last_line_after e c < n → client_op (commands n) ≡ client_op (asked_at es n)
-  asks_on (event.Line line o) at es c may asks n up =
+  asks_on : (e : Event) (at : ℕ) (es : Events) (c : Core) → IsBookEvent c e → AsAsked c ((e, at) ∷ es) → (n : ℕ) → last_line_after e c < n → n ≤ top → client_op (commands n) ≡ client_op (asked_at es n)
+  asks_on (event.Line line o) at es c may asks n up high =
       let next : line ≡ c.progress.last_line + 1 = may.next in
       let above : line < n = up in
-      asks n (omega (arith, next, above)) ∙ ap (λ (b : Bool). client_op (cond b (Some (command.Client o)) (asked_at es n))) (ne_eqb line n (λ is. absurd (omega (arith, is, above))))
-  asks_on (event.Report peer d) at es c may asks n up = asks n up
-  asks_on (event.Deliver line number) at es c may asks n up = asks n up
-  asks_on (event.Turn line peer) at es c may asks n up = absurd may
-  asks_on (event.Lose line number) at es c may asks n up = absurd may
-  asks_on (event.Repeat line number) at es c may asks n up = absurd may
-  asks_on (event.Nudge line peer) at es c may asks n up = absurd may
-  asks_on (event.Fail line peer) at es c may asks n up = absurd may
-  asks_on (event.Start line peer) at es c may asks n up = absurd may
+      asks n (omega (arith, next, above)) high ∙ ap (λ (b : Bool). client_op (cond b (Some (command.Client o)) (asked_at es n))) (ne_eqb line n (λ is. absurd (omega (arith, is, above))))
+  asks_on (event.Report peer d) at es c may asks n up high = asks n up high
+  asks_on (event.Deliver line number) at es c may asks n up high = asks n up high
+  asks_on (event.Turn line peer) at es c may asks n up high = absurd may
+  asks_on (event.Lose line number) at es c may asks n up high = absurd may
+  asks_on (event.Repeat line number) at es c may asks n up high = absurd may
+  asks_on (event.Nudge line peer) at es c may asks n up high = absurd may
+  asks_on (event.Fail line peer) at es c may asks n up high = absurd may
+  asks_on (event.Start line peer) at es c may asks n up high = absurd may
 
-  pub book_turns : (es : Events) (c : Core) → AreBookSteps c es → c.progress.event_line ≡ c.progress.last_line → AsAsked c es → AllKeepTurn commands c es
-  book_turns [] c may same asks = tt
-  book_turns (e ∷ es) c may same asks = (
-    λ going. keeps e.0 e.1 es c may.0.may (let now : e.1 ≡ c.moment = may.0.moment in omega (arith, now)) same asks,
-    book_turns es (step e.0 e.1 c) may.1
-        (step_line e.0 e.1 c may.0.going ∙ lines_meet e.0 c may.0.may same ∙ sym (line_at c e.0 e.1 may.0.going))
-        (λ n up. asks_on e.0 e.1 es c may.0.may asks n (subst (λ (l : ℕ). l < n) (line_at c e.0 e.1 may.0.going) up)),
-  )
+  pub book_turns : (es : Events) (c : Core) → AreBookSteps c es → c.progress.event_line ≡ c.progress.last_line → (steps c es).progress.last_line ≤ top → AsAsked c es → AllKeepTurn commands c es
+  book_turns [] c may same low asks = tt
+  book_turns (e ∷ es) c may same low asks =
+      let line : (step e.0 e.1 c).progress.last_line ≡ last_line_after e.0 c = line_at c e.0 e.1 may.0.going in
+      let rises : (step e.0 e.1 c).progress.last_line ≤ (steps (step e.0 e.1 c) es).progress.last_line = book_rises es (step e.0 e.1 c) may.1 in
+      let last : (steps (step e.0 e.1 c) es).progress.last_line ≤ top = low in (
+        λ going. keeps e.0 e.1 es c may.0.may (let now : e.1 ≡ c.moment = may.0.moment in omega (arith, now)) same (omega (arith, line, rises, last)) asks,
+        book_turns es (step e.0 e.1 c) may.1
+            (step_line e.0 e.1 c may.0.going ∙ lines_meet e.0 c may.0.may same ∙ sym line)
+            low (λ n up high. asks_on e.0 e.1 es c may.0.may asks n (subst (λ (l : ℕ). l < n) line up) high),
+      )
 
 -- ---- the book
 
@@ -231,8 +259,8 @@ book_deeds below shown set found cs names may book history come =
     subst (λ (c : Core). AreDeeds set.limits (hollow (store_with cs [])) [] (map as_deed c.journal)) (sym history.led)
     (told_deeds set.limits (hollow (store_with cs [])) (steps (first_core set found) history.events)
     (history_told below shown set found cs names may (book_commands history.events) refl history.events (book_clients history.events) come
-    (book_turns (book_commands history.events) refl history.events (first_core set found) history.may (lines.event_line ∙ sym lines.last_line)
-    (λ n up. ap (λ (b : Bool). client_op (cond b None (asked_at history.events n))) (ne_eqb n 0 (λ zero. absurd (omega (arith, up, zero))))))))
+    (book_turns (book_commands history.events) refl (steps (first_core set found) history.events).progress.last_line history.events (first_core set found) history.may (lines.event_line ∙ sym lines.last_line) (omega arith)
+    (λ n up high. ap (λ (b : Bool). client_op (cond b None (asked_at history.events n))) (ne_eqb n 0 (λ zero. absurd (omega (arith, up, zero))))))))
   where
     lines : HasNoLine (first_core set found)
     lines = opens_lines set.shape set.limits (opens_with set found) found.opened

@@ -1,7 +1,7 @@
 -- What a core tells from its opening on is deeds, whatever events come.
 use Rattle.std.proofs.Common.{◌≡◌, ◌∙◌, sym, ap, subst, ℕ, ◌++◌, List, [], ◌∷◌, map, Option, Some, None, refl, arith, append_assoc}
 use Rattle.std.specs.Option.{option_map}
-use Rattle.hs_answered.specs.Standing.{store_with}
+use Rattle.hs_answered.specs.Standing.{IsFolded, store_with}
 use Rattle.hs_any_events.proofs.AlongLemmas.{LawsBelow, code_for}
 use Rattle.hs_any_events.proofs.CodedHistoryLemmas.{base_is_above, base_of}
 use Rattle.hs_any_events.proofs.CodedLemmas.{Code, coded_gives, coded_name}
@@ -18,6 +18,7 @@ use Rattle.hs_core_words.specs.Step.{step}
 use Rattle.hs_core_words.specs.declared.event.Event.{Event}
 use Rattle.hs_core_words.specs.declared.event.Event.TheVariants as event
 use Rattle.hs_deeds.proofs.BareLemmas.{bare_is}
+use Rattle.hs_deeds.proofs.CarryLemmas.{folded_there}
 use Rattle.hs_deeds.proofs.GivenDeedLemmas.{ByPointers}
 use Rattle.hs_deeds.proofs.OnLemmas.{map_join}
 use Rattle.hs_deeds.proofs.OpensLemmas.{IsOpenTelling, opens_telling}
@@ -181,13 +182,19 @@ module _ (below : LawsBelow) (shown : ByPointers) (set : Setting) (found : Found
     tells = record { its = stands_coded start_of opens its_of.0 its_of.1 valid_of idle_of es; points = telling.points; told = λ clean. telling.told };
   }
 
+  abbrev goes_on : (es : Events) → AllComeOn ComesNext (first_core set found) es → AllKeepTurn commands (first_core set found) es → GoesOnTelling (code_of es) set.limits (bare_store new) commands (steps (first_core set found) es)
+  goes_on es come keep = all_tell below shown (code_of es) (coded_gives (code_of es) names (table_whole es)) set.limits (bare_store new) commands es opens come keep (λ a m. m) (first_tells es)
+
   pub history_told : (es : Events) → AreClients commands → AllComeOn ComesNext (first_core set found) es → AllKeepTurn commands (first_core set found) es
       → HasTold set.limits (hollow (store_with cs [])) (steps (first_core set found) es)
   history_told es clients come keep =
-      subst (λ (s : Store). HasTold set.limits s last) (bare_is new cs may.lawful.folded) (has_told (code_of es) set.limits (bare_store new) commands last clients goes)
-    where
-      last : Core
-      last = steps opens es
+      subst (λ (s : Store). HasTold set.limits s (steps opens es)) (bare_is new cs may.lawful.folded) (has_told (code_of es) set.limits (bare_store new) commands (steps opens es) clients (goes_on es come keep))
 
-      goes : GoesOnTelling (code_of es) set.limits (bare_store new) commands last
-      goes = all_tell below shown (code_of es) (coded_gives (code_of es) names (table_whole es)) set.limits (bare_store new) commands es opens come keep (λ a m. m) (first_tells es)
+  -- the answers are in order, and the catalogues are folds
+  pub history_turn : (es : Events) → AllComeOn ComesNext (first_core set found) es → AllKeepTurn commands (first_core set found) es → IsInTurn commands (steps (first_core set found) es)
+  history_turn es come keep = (goes_on es come keep).turn
+
+  pub history_folds : (es : Events) → AllComeOn ComesNext (first_core set found) es → AllKeepTurn commands (first_core set found) es → (after : List Folded) × IsFolded (steps (first_core set found) es) after
+  history_folds es come keep =
+      let its : IsCodedSteady (code_of es) set.limits (steps opens es).progress.last_line (steps opens es) = (goes_on es come keep).tells.its in
+      (its.steady.0, folded_there (code_of es) (steps opens es) its.coded its.beside its.steady.0 its.steady.1.lawful.folded)

@@ -21,4 +21,5 @@ pub mod OpensLemmas
 pub mod HistoryLemmas
 pub mod BookLemmas
 pub mod BookComesLemmas
+pub mod LinesLemmas
 mod Examples

@@ -3,3 +3,4 @@ pub mod Points
 pub mod Bare
 pub mod On
 pub mod History
+pub mod Lines

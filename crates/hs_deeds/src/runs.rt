@@ -5,6 +5,7 @@ ghost use Rattle.hs_any_events.specs.Events.{ComesNext};
 ghost use Rattle.hs_book.specs.Book.{Book};
 ghost use Rattle.hs_book.specs.History.{History};
 ghost use Rattle.hs_deeds.specs.History.{AreClients, HasTold};
+ghost use Rattle.hs_deeds.specs.Lines.{AskedLine, GoesToEnd, LeavesDeeds, events_of};
 ghost use Rattle.hs_events.specs.Course.{steps};
 ghost use Rattle.hs_events.specs.Due.{Events};
 ghost use Rattle.hs_events.specs.Found.{Found, first_core};
@@ -12,6 +13,7 @@ ghost use Rattle.hs_fold.specs.Shards.Setting.{Setting};
 ghost use Rattle.hs_journal.specs.Deeds.{as_deed};
 ghost use Rattle.hs_journal.specs.Events.{client_op};
 ghost use Rattle.hs_known_copies.specs.Known.{AllComeWithRoom};
+ghost use Rattle.hs_limits.specs.declared.address.Address.{Address};
 ghost use Rattle.hs_model.specs.declared.command.Command.{Command};
 ghost use Rattle.hs_model.specs.Deeds.{AreDeeds};
 ghost use Rattle.hs_model.specs.Hollow.{hollow};
@@ -36,7 +38,9 @@ use hs_memory::catalogues_in_memory_are_folds;
 /// tell, whatever addresses writes bring, and with any number of copies (`run`). It opens over sound lists; each
 /// line that has a command is a client's, and comes above those before, at a moment that is not before the last
 /// one; a write brings an address where it has a block; and as long as the core goes on it has room for root
-/// records. So the journal of a book that was opened with such a core is one of deeds (`book`).
+/// records. So the journal of a book that was opened with such a core is one of deeds (`book`). Where the core turned
+/// before, and goes on behind the book by lines that delete or settle, its journal is one of deeds still, which leave
+/// its store; and that has as many blocks and retained roots as the catalogues count (`lines`).
 pub fn a_history_is_its_deeds()
     ensures run { (set : Setting) (found : Found) (commands : ℕ → Option Command)
         (events : Events) → OpensSoundly set found
@@ -49,6 +53,12 @@ pub fn a_history_is_its_deeds()
         → OpensSoundly set found → History (first_core set found) book →
         AreDeeds set.limits (hollow (store_with (opened_folds set found) [])) []
         (map as_deed book.core.journal) }
+    ensures lines { (set : Setting) (found : Found) (name : List ℕ → Address) (turns : Events)
+        (book : Book) (lines : List AskedLine)
+        → OpensSoundly set found → GoesToEnd name set found turns book lines
+        → (steps book.core (events_of lines)).ended ≡ None →
+        LeavesDeeds set.limits (hollow (store_with (opened_folds set found) []))
+        (steps book.core (events_of lines)) }
 {
     a_step_that_answers_is_the_judges();
     an_answer_is_the_judges();

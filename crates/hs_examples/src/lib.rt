@@ -4,4 +4,6 @@
 #[cfg(test)]
 mod loads;
 #[cfg(test)]
+mod replay;
+#[cfg(test)]
 mod tests;

@@ -4,7 +4,7 @@ use Rattle.std.proofs.lemmas.Bool.{cases_lt}
 use Rattle.std.specs.Prelude.{IsSome}
 use Rattle.hs_answered.proofs.ShownLemmas.{held_is}
 use Rattle.hs_answered.specs.Telling.{events_in}
-use Rattle.hs_asker.proofs.HubLemmas.{on_disks as runs_on_disks}
+use Rattle.hs_asker.proofs.HubLemmas.{handed_so}
 use Rattle.hs_asker.proofs.LinesLemmas.{are_asked, command_zero}
 use Rattle.hs_asker.proofs.StopLemmas.{went}
 use Rattle.hs_asker.specs.Going.{AtEntry, Inside, IsAsker, IsGoing, at_of, begun_by}
@@ -18,6 +18,7 @@ use Rattle.hs_clauses.specs.Asked.{start_of}
 use Rattle.hs_clauses.specs.Shown.{HasItsDisks, IsBehindAtEntry, IsToldAs, RunsSoundly}
 use Rattle.hs_cluster.proofs.GoingOnLemmas.{going_before}
 use Rattle.hs_cluster.specs.Disks.{stands_of}
+use Rattle.hs_cluster.specs.Kept.{Span}
 use Rattle.hs_core_words.specs.State.{Core}
 use Rattle.hs_events.specs.Found.{first_core}
 use Rattle.hs_fold.specs.Runs.Facts.{Catalogue as Folded}
@@ -35,10 +36,10 @@ use Rattle.hs_promise.specs.Lost.{IsPast}
 use Rattle.hs_promise.specs.Machine.{Went}
 use Rattle.hs_promise.specs.Run.{Ran, Script}
 use Rattle.hs_promise.specs.Story.{Story, all_events, last_core}
-use Rattle.hs_run.proofs.DisksLemmas.{read_as}
+use Rattle.hs_run.proofs.DisksLemmas.{failed_by, lost_by, read_as, stands_as}
 use Rattle.hs_run.specs.Ended.{ran_at}
 use Rattle.hs_run.specs.Going.{Begun, story_of}
-use Rattle.hs_run.specs.Machine.{RunsOnDisks}
+use Rattle.hs_run.specs.Machine.{AreHanded, RunsOnDisks}
 use Rattle.hs_settled.proofs.BegunLemmas.{stands}
 use Rattle.hs_shown.specs.Showing.{as_sessions}
 use Rattle.hs_standing.specs.Run.{MayRun, RunBegins, RunStands}
@@ -90,8 +91,28 @@ module _ (laws : Laws) (tells : Type 0) (e : AtEntry) (s : Inside) (h : IsAsker 
   its_run : Went S r story
   its_run = went tells e g.found g.first g.opening h.shape h.count (command_at s.said) s.said g.lines (at_of s) None tt h.left (command_zero s.said) (are_asked s.said) g.done g.shows
 
+  abbrev its_span : Span
+  its_span = record { before = e.moment; now = s.now; old = g.first; new = s.cluster; disks = e.disks; left = s.disks }
+
+  was : AreHanded r.old e.disks
+  was = handed_so e.moment e.disks
+
+  is : AreHanded r.new s.disks
+  is = handed_so s.now s.disks
+
   its_disks : RunsOnDisks tells S r story
-  its_disks = runs_on_disks tells e g.found g.first g.opening (command_at s.said) None s.line s.now s.cluster s.cluster s.disks g.lines g.shows.shown g.shows.since
+  its_disks = record {
+    span = its_span;
+    before = refl;
+    now = refl;
+    old = was;
+    new = is;
+    since = g.shows.since;
+    shown = g.shows.shown;
+    lost = lost_by tells e.set its_span g.found (all_events story) r.old r.new was is g.shows.shown;
+    failed = failed_by tells e.set its_span g.found (all_events story) r.old r.new was is g.shows.shown;
+    untold = λ whole. stands_as e.set its_span g.found (all_events story) r.old r.new was is g.shows.may.untold;
+  }
 
   behind : IsBehindAtEntry S r
   behind = elim alike [ | inl one ↦ inl one | inr same ↦ inr same.called ]

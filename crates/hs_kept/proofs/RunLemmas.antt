@@ -4,7 +4,7 @@ use Rattle.std.proofs.lemmas.List.{get_or-map, length-map}
 use Rattle.std.specs.List.{AllByRecursion}
 use Rattle.std.specs.Prelude.{IfSome, if◌then◌else◌, slice_index_or, unwrap_or}
 use Rattle.hs_answered.specs.Telling.{Judging}
-use Rattle.hs_clauses.proofs.AsideLemmas.{taken_at, taken_counts, taken_log, taken_of}
+use Rattle.hs_clauses.proofs.AsideLemmas.{each_taken, taken_at, taken_counts, taken_log}
 use Rattle.hs_clauses.proofs.EndedLemmas.{journal_notes}
 use Rattle.hs_clauses.proofs.EntryLemmas.{entry_count, entry_log}
 use Rattle.hs_clauses.proofs.GreatestLemmas.{FoundFirst, within}
@@ -160,16 +160,16 @@ module _ (S : Script) (r : Ran) (story : Story) (on : HasItsDisks S r) (told : I
 
   module _ (same : AreCopiesAlike S.set.shape r.old.moment r.old.disks) (shard : ℕ) (low : shard < S.set.shape.shards) where
     abbrev taken : FoundFirst (is_best S.set.shape story.found.logs shard) (peer_of S.set.shape shard 0) S.set.shape.copies
-    taken = taken_of S story.found on.shape told.went.found.logs told.went.found.kept going shard low
+    taken = each_taken S story.found on.shape told.went.found.logs told.went.found.kept going shard low
 
     inside : (p : ℕ) → p < peer_of S.set.shape shard 0 + S.set.shape.copies → p < peer_count S.set.shape
     inside p to = let w = within S.set.shape story.found.logs told.went.found.logs shard low in omega (arith, to, w)
 
     there : is_taken S.set.shape story.found.logs taken.at ≡ true
-    there = taken_at S story.found on.shape told.went.found.logs told.went.found.kept going shard low
+    there = taken_at S story.found on.shape (each_taken S story.found on.shape told.went.found.logs told.went.found.kept going) shard low
 
     counts_there : is_aside S r taken.at ≡ false
-    counts_there = taken_counts S r story told.went on.shape going taken.at (inside taken.at taken.to) there
+    counts_there = taken_counts S r story told.went on.shape (each_taken S story.found on.shape told.went.found.logs told.went.found.kept going) taken.at (inside taken.at taken.to) there
 
     some_of : (o : Option Numbered) → (o ≡ None → ⊥) → (list : Numbered) × (o ≡ Some list)
     some_of None none = absurd (none refl)
@@ -177,7 +177,7 @@ module _ (S : Script) (r : Ran) (story : Story) (on : HasItsDisks S r) (told : I
 
     its_list : (list : Numbered) × (list_in (disk_at r.old.disks taken.at).seen ≡ Some list)
     its_list =
-        let none = taken_log S story.found on.shape told.went.found.logs told.went.found.kept going taken.at (inside taken.at taken.to) there in
+        let none = taken_log S story.found on.shape (each_taken S story.found on.shape told.went.found.logs told.went.found.kept going) taken.at (inside taken.at taken.to) there in
         elim (told.read taken.at (inside taken.at taken.to)) [
           | inl read ↦ some_of (list_in (disk_at r.old.disks taken.at).seen) (λ e. none (read ∙ e))
           | inr failed ↦ absurd (none failed.0)

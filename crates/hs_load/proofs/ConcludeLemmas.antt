@@ -1,7 +1,8 @@
 -- How a load ends behind the joins.
-use Rattle.std.proofs.Common.{◌≡◌, ◌∙◌, ◌⊎◌, inl, inr, ap, sym, subst, false, refl, ℕ, List, [], Bool, true, Option, Some, None, Result, Ok}
+use Rattle.std.proofs.Common.{◌≡◌, ◌≤◌, ◌∙◌, ◌⊎◌, inl, inr, ap, sym, subst, false, refl, ℕ, List, [], Bool, true, Option, Some, None, Result, Ok}
 use Rattle.std.specs.Prelude.{⊤}
 use Rattle.hs_book.specs.Book.{Book}
+use Rattle.hs_cluster.specs.Resuming.{EndAsSealed}
 use Rattle.hs_cluster.specs.Running.{Running}
 use Rattle.hs_cluster.specs.declared.fault.ClusterFault.{ClusterFault}
 use Rattle.hs_core_words.specs.State.{Core}
@@ -38,13 +39,15 @@ module _ (tells : Type 0) (load : Load) (book : Book) (team : Team) (left new : 
 -- the last lines were run from the core and the logs of a cluster that was resumed
 pub runs_last : (tells : Type 0) (load : Load) (book : Book) (team : Team) (left new : List DiskSeen) (core : Core) (did : Result ⊤ ClusterFault) (name : List ℕ → Address) (now line : ℕ) (begun : Running) (start : List DiskSeen) (end : Stand)
     → RunsAll tells name last_lines (record { now = now; cluster = begun; disks = start; line = line }) end did
-    → load.set.name ≡ name → begun ≡ record { core = book.core; logs = team.logs; course = []; cache = None } → start ≡ left → line ≡ book.core.progress.last_line → core ≡ end.cluster.core → new ≡ end.disks
+    → load.set.name ≡ name → begun ≡ record { core = book.core; logs = team.logs; course = []; cache = None } → start ≡ left → line ≡ book.core.progress.last_line → core ≡ end.cluster.core → new ≡ end.disks → book.core.moment ≤ now → EndAsSealed book.core team.logs
     → RunsLast tells load book team left new core did
-runs_last tells load book team left new core did name now line begun start end runs named from on at last disks =
+runs_last tells load book team left new core did name now line begun start end runs named from on at last disks later fit =
     let here : RunsAll tells load.set.name last_lines (begun_at book team left now) end did
     = subst (λ (old : Stand). RunsAll tells load.set.name last_lines old end did) (λ i. record { now = now; cluster = from i; disks = on i; line = at i })
     (subst (λ (f : List ℕ → Address). RunsAll tells f last_lines (record { now = now; cluster = begun; disks = start; line = line }) end did) (sym named) runs) in record {
       now = now;
+      later = later;
+      fit = fit;
       end = end;
       runs = here;
       on = lists_go_on tells load.set.name last_lines (begun_at book team left now) end did here;

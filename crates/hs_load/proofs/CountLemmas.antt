@@ -20,7 +20,7 @@ use Rattle.hs_taking.specs.Shares.{Span}
 use Rattle.hs_workers.specs.Work.{WorkEnds}
 use Rattle.hs_workers.specs.declared.fault.WorkFault.{WorkFault}
 use Rattle.hs_load.specs.Judged.{HaveWorked, Load, Team}
-use Rattle.hs_load.specs.Loaded.{Close, Cut, Empty, EndsLoad, EndsTeam, EndsWork, Full, Handed, Judged, Put, PutsSummary, RunsAll, RunsLast, Shut, Stand, Summed, Unopened, Unput, Unsummed, Unworked, Wanting, Worked, begun_at, last_lines}
+use Rattle.hs_load.specs.Loaded.{Close, Cut, Empty, EndsLoad, EndsTeam, EndsWork, Full, Handed, Judged, Put, PutsSummary, RunsAll, RunsLast, Shut, Stand, Summed, Unopened, Unput, Unagreed, Unfit, Unsummed, Unworked, Wanting, Worked, begun_at, last_lines}
 use Rattle.hs_load.specs.Team.{PeerEnds, Task, bench_at, end_by, fresh_slip, stored_of}
 
 -- ---- of disks
@@ -58,6 +58,7 @@ module _ (tells : Type 0) where
   -- behind the joins
   work_falls : (load : Load) (book : Book) (team : Team) (left new : List DiskSeen) (core : Core) (c : Close) → EndsWork tells load book team left new core c → NoneFalls left new
   work_falls load book team left new core c (Wanting is none same calm) = subst (λ (ds : List DiskSeen). NoneFalls left ds) (sym calm) (falls_same left)
+  work_falls load book team left new core c (Unfit same unfit is none at calm) = subst (λ (ds : List DiskSeen). NoneFalls left ds) (sym calm) (falls_same left)
   work_falls load book team left new core c (Judged rested judged none same calm) = subst (λ (ds : List DiskSeen). NoneFalls left ds) (sym calm) (falls_same left)
   work_falls load book team left new core c (Cut f same runs is none) = last_fall load book team left new core (Err f) runs
   work_falls load book team left new core c (Summed same runs puts) = last_fall load book team left new core (Ok tt) runs
@@ -83,11 +84,13 @@ same_later a b is = omega (arith, is)
 
 put_later : (writers : ℕ) (ends : List (Result WriterSum WorkFault)) (core : Core) (line : ℕ) (c : Close) → PutsSummary writers ends core line c → c.old_faults ≤ c.new_faults
 put_later writers ends core line c (Unsummed is none) = same_later c.old_faults c.new_faults none.1
+put_later writers ends core line c (Unagreed sums are differs is none) = same_later c.old_faults c.new_faults none.1
 put_later writers ends core line c (Put sums are tallied is put later) = later
 put_later writers ends core line c (Unput sums are tallied is put risen later) = later
 
 work_later : (tells : Type 0) (load : Load) (book : Book) (team : Team) (left new : List DiskSeen) (core : Core) (c : Close) → EndsWork tells load book team left new core c → c.old_faults ≤ c.new_faults
 work_later tells load book team left new core c (Wanting is none same calm) = same_later c.old_faults c.new_faults none.1
+work_later tells load book team left new core c (Unfit same unfit is none at calm) = same_later c.old_faults c.new_faults none.1
 work_later tells load book team left new core c (Judged rested judged none same calm) = same_later c.old_faults c.new_faults none.1
 work_later tells load book team left new core c (Cut f same runs is none) = same_later c.old_faults c.new_faults none.1
 work_later tells load book team left new core c (Summed same runs puts) = put_later load.writers team.ends core book.core.progress.last_line c puts

@@ -7,5 +7,7 @@ pub mod HandLemmas
 pub mod JoinLemmas
 pub mod JudgeLemmas
 pub mod ListLemmas
+pub mod ReachedLemmas
 pub mod ReadyLemmas
+pub mod RestLemmas
 pub mod TeamLemmas

@@ -1,7 +1,7 @@
 -- What stands behind the joins.
-use Rattle.std.specs.Prelude.{◌≡◌, ℕ, [], List, None, Option, Some, slice_get, slice_index_or}
+use Rattle.std.specs.Prelude.{◌≡◌, ◌≤◌, ◌*◌, ℕ, [], List, None, Option, Some, slice_get, slice_index_or}
 use Rattle.hs_book.specs.Book.{Book}
-use Rattle.hs_book.specs.History.{IsBook}
+use Rattle.hs_book.specs.History.{IsBook, NobodyJoins}
 use Rattle.hs_core_words.specs.State.{Core}
 use Rattle.hs_peerlog.specs.Lists.{Keeping}
 use Rattle.hs_promise.specs.declared.load.Stored.{Stored}
@@ -17,6 +17,14 @@ use Rattle.hs_load.specs.Team.{Task}
 -- those that worked, as they were handed back
 abbrev pub team_of : Peers → Askers → Team
 team_of peers askers = record { stored = peers.stored.items; stops = peers.stops.items; logs = peers.logs.items; kept = askers.kept.items; ends = askers.ends.items }
+
+-- a core that goes on, of which nobody joins, with a place for the log of each of its peers and a disk of each, at a moment that is not before its own
+pub record MayGoOn (core : Core) (slots count now : ℕ) : Type 0 where
+  pub going : core.ended ≡ None
+  pub calm : NobodyJoins core
+  pub logs : slots ≡ core.members.shape.shards * core.members.shape.copies
+  pub disks : count ≡ core.members.shape.shards * core.members.shape.copies
+  pub moment : core.moment ≤ now
 
 -- where the numbers of a peer part from those that the book has
 pub record IsApartAt (stored : List Stored) (book : Book) (a : Apart) : Type 0 where

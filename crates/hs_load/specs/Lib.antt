@@ -4,6 +4,7 @@ pub mod Judged
 pub mod Judgement
 pub mod Loaded
 pub mod Owners
+pub mod Reached
 pub mod Seating
 pub mod Tallied
 pub mod Team

@@ -1,5 +1,5 @@
 -- What the command `load` promises.
-use Rattle.std.specs.Prelude.{◌≡◌, ◌≢◌, ◌⊎◌, ℕ, ◌+◌, ◌*◌, ◌<◌, ◌≤◌, ⊤, Bool, false, true, All, IfSome, List, [], ◌∷◌, ◌++◌, Option, Some, None, Result, Ok, Err, codes, if◌then◌else◌, length, map, slice_get, slice_index_or}
+use Rattle.std.specs.Prelude.{◌≡◌, ◌≢◌, ◌⊎◌, ℕ, ◌+◌, ◌*◌, ◌^◌, ◌<◌, ◌≤◌, ⊤, Bool, false, true, All, IfSome, List, [], ◌∷◌, ◌++◌, Option, Some, None, Result, Ok, Err, codes, if◌then◌else◌, length, map, slice_get, slice_index_or}
 use Rattle.hs_book.specs.Book.{Book}
 use Rattle.hs_book.specs.History.{IsBook}
 use Rattle.hs_cluster.specs.Begins.{HasOpened, IsClosed}
@@ -8,6 +8,7 @@ use Rattle.hs_cluster.specs.Counts.{NoneFalls}
 use Rattle.hs_cluster.specs.Growing.{GoesOn}
 use Rattle.hs_taking.specs.Disks.{DiskSeen, log_at, seen_at}
 use Rattle.hs_cluster.specs.Kept.{Shows, Span}
+use Rattle.hs_cluster.specs.Resuming.{EndAsSealed}
 use Rattle.hs_cluster.specs.Running.{Running}
 use Rattle.hs_cluster.specs.declared.fault.ClusterFault.{ClusterFault}
 use Rattle.hs_cluster.specs.declared.fault.ClusterFault.TheVariants as cluster
@@ -132,21 +133,28 @@ refused_when s core = if (ending_of s).full then core.refused else []
 
 -- ---- behind the joins
 
--- the summary of what a core counts was put, which agrees with what the writers kept, or a front of it, since the sink failed; or memory was wanting; line: that before the last ones
+-- the summary of what a core counts was put, which agrees with what the writers kept, or a front of it, since the sink failed; or memory was wanting, or it does not agree, and nothing was put; line: that before the last ones
 pub data PutsSummary (writers : ℕ) (ends : List (Result WriterSum WorkFault)) (core : Core) (line : ℕ) (c : Close) : Type 0 where
   Unsummed : c.ending ≡ status.NoMemory → PutsNothing c → PutsSummary writers ends core line c
+  Unagreed : (sums : List WriterSum) → AreSums sums writers ends → (HasTallied sums core line → ⊥) → c.ending ≡ status.NoMemory → PutsNothing c → PutsSummary writers ends core line c
   Put : (sums : List WriterSum) → AreSums sums writers ends → HasTallied sums core line → c.ending ≡ status.Done → bytes_of c.new ≡ followed (bytes_of c.old) (summary_text sums (roots_in core) (blocks_in core))
       → c.old_faults ≤ c.new_faults → PutsSummary writers ends core line c
   Unput : (sums : List WriterSum) → AreSums sums writers ends → HasTallied sums core line → c.ending ≡ status.WriteFault
       → PutsFront (bytes_of c.old) (summary_text sums (roots_in core) (blocks_in core)) (bytes_of c.new) → HasRisen c.old_faults c.new_faults → c.old_faults ≤ c.new_faults → PutsSummary writers ends core line c
 
+-- the last lines can't begin though the book goes on: the log of a peer that is not down is out of use or does not end with what the peer is known to have sealed, or the number of a line would be too great
+abbrev pub IsUnfit : Core → List (Option Keeping) → Type 0
+IsUnfit core logs = EndAsSealed core logs → core.progress.last_line < 2 ^ 62 → ⊥
+
 -- where the last lines begin: with the core of the book and the logs that are in use, over the disks as those that worked left them
 abbrev pub begun_at : Book → Team → List DiskSeen → ℕ → Stand
 begun_at book team left now = record { now = now; cluster = record { core = book.core; logs = team.logs; course = []; cache = None }; disks = left; line = book.core.progress.last_line }
 
--- they were run from there, to their end or to what cut one short; this is the core behind them, and these the disks
+-- they were run from there, at a moment that is not before the book's, to their end or to what cut one short; as they begin each peer that is not down has a log in use, which ends with what it is known to have sealed; this is the core behind them, and these the disks
 pub record RunsLast (tells : Type 0) (load : Load) (book : Book) (team : Team) (left new : List DiskSeen) (core : Core) (did : Result ⊤ ClusterFault) : Type 0 where
   pub now : ℕ
+  pub later : book.core.moment ≤ now
+  pub fit : EndAsSealed book.core team.logs
   pub end : Stand
   pub runs : RunsAll tells load.set.name last_lines (begun_at book team left now) end did
   pub on : ListsGoOn tells (begun_at book team left now) end
@@ -157,6 +165,8 @@ pub record RunsLast (tells : Type 0) (load : Load) (book : Book) (team : Team) (
 pub data EndsWork (tells : Type 0) (load : Load) (book : Book) (team : Team) (left new : List DiskSeen) (core : Core) (c : Close) : Type 0 where
   -- memory was wanting
   Wanting : c.ending ≡ status.NoMemory → PutsNothing c → core ≡ book.core → new ≡ left → EndsWork tells load book team left new core c
+  -- they can't be begun
+  Unfit : AreSame load book team → IsUnfit book.core team.logs → c.ending ≡ status.NoMemory → PutsNothing c → core ≡ book.core → new ≡ left → EndsWork tells load book team left new core c
   -- the last deletions are not begun
   Judged : wants_memory team ≡ false → IsJudged load book team c.ending → PutsNothing c → core ≡ book.core → new ≡ left → EndsWork tells load book team left new core c
   -- or one of their lines was cut short
@@ -174,6 +184,8 @@ pub record Works (tells : Type 0) (load : Load) (start : Core) (slots : List (Op
   pub team : Team
   pub last : Core
   pub left : List DiskSeen
+  -- there is a disk for each peer
+  pub count : length disks ≡ start.members.shape.shards * start.members.shape.copies
   pub led : IsBook start book
   pub worked : HaveWorked tells (task_of load) slots disks left team
   pub stored : HaveStored tells slots disks left team

@@ -2,9 +2,11 @@
 use Rattle.std.specs.List.{list_any}
 use Rattle.std.specs.Option.{option_map_or}
 use Rattle.std.specs.Prelude.{◌≡◌, ℕ, ◌+◌, ◌==◌, ◌&&◌, Bool, true, false, List, count_by, is_some, length, sum_by}
+use Rattle.hs_core_words.specs.Plain.{plain_store}
 use Rattle.hs_core_words.specs.State.{Core}
 use Rattle.hs_journal.specs.Deeds.{line_answered}
 use Rattle.hs_journal.specs.declared.entry.JournalEntry.{JournalEntry}
+use Rattle.hs_load.specs.Reached.{EachIsReached}
 use Rattle.hs_model.specs.declared.deed.Deed.{Deed}
 use Rattle.hs_model.specs.declared.deed.Deed.TheVariants as deed
 use Rattle.hs_model.specs.declared.op.Asked.{Asked}
@@ -71,9 +73,10 @@ is_deletion entry = is_some (line_answered entry.who) && deletes entry.deed
 abbrev pub runs_at : ℕ → JournalEntry → Bool
 runs_at line entry = option_map_or (λ own. own == line) (line_answered entry.who) false && begins_run entry.deed
 
--- the retained roots are as many as the files that writers kept; six deletions were answered, and those of the last lines, behind this one, run
+-- the retained roots are as many as the files that writers kept, and reach each block; six deletions were answered, and those of the last lines, behind this one, run
 pub record HasTallied (sums : List WriterSum) (core : Core) (line : ℕ) : Type 0 where
   pub roots : roots_in core ≡ sum_by (λ sum. sum.kept) sums
   pub deletions : count_by is_deletion core.journal ≡ 6
   pub first : list_any (λ entry. runs_at (line + 2) entry) core.journal ≡ true
   pub second : list_any (λ entry. runs_at (line + 4) entry) core.journal ≡ true
+  pub reached : EachIsReached (plain_store core)

@@ -1,19 +1,22 @@
 //! What a load does behind the joins.
-ghost use Rattle.std.specs.Prelude.{◌≡◌, ◌*◌, ◌<◌, ◌≤◌, ◌^◌, [], None, length, map, true, vec_len};
+ghost use Rattle.std.specs.Prelude.{◌≡◌, ◌*◌, ◌<◌, ◌≤◌, ◌^◌, [], None, length, map, true, vec_len, IfOk};
 ghost use Rattle.hs_book.specs.Book.{Book};
 ghost use Rattle.hs_book.specs.History.{NobodyJoins};
 ghost use Rattle.hs_cluster.specs.Resuming.{EndAsSealed};
+ghost use Rattle.hs_core_words.specs.Plain.{plain_store};
 ghost use Rattle.hs_core_words.specs.State.{Core};
-ghost use Rattle.hs_load.specs.Joined.{team_of};
+ghost use Rattle.hs_load.specs.Joined.{MayGoOn, team_of};
 ghost use Rattle.hs_load.specs.Judged.{Load};
 ghost use Rattle.hs_load.specs.Judgement.{IsJudgedSo};
 ghost use Rattle.hs_load.specs.Loaded.{EndsWork, PutsSummary, refused_when};
+ghost use Rattle.hs_load.specs.Reached.{EachIsReached};
 ghost use Rattle.hs_taking.specs.Disks.{AreReady, seen_as};
 
 use crate::finishing::finish;
 use crate::handing::{Askers, Peers};
 use crate::judgement::{Judgement, status_of};
 use crate::outcome::{cluster_status, outcome_of};
+use crate::reaching::last_core;
 use crate::resuming::are_fit;
 use crate::summing::{summary_of, sums_of};
 use crate::tallying::has_tallied;
@@ -22,6 +25,7 @@ use hs_block::Addresser;
 use hs_book::nobody_joins;
 use hs_cluster::Cluster;
 use hs_core::Core;
+use hs_desk::CoreFault;
 use hs_peerlog::PeerLog;
 use hs_ports::{Disk, Sink, Watch};
 use hs_promise::{Outcome, Status};
@@ -44,6 +48,8 @@ fn can_resume(core: &Core, logs: &[Option<PeerLog>], disks: usize, now: u64) -> 
         ≡ core.now.members.shape.shards * core.now.members.shape.copies }
     ensures moment { result ≡ true → core.now.moment ≤ now }
     ensures room { result ≡ true → core.now.progress.last_line < 2 ^ 62 }
+    ensures only { MayGoOn core.now (length logs.now) disks now → EndAsSealed core.now logs.now
+        → core.now.progress.last_line < 2 ^ 62 → result ≡ true }
 {
     let shape = core.shape();
     let peers = usize::from(shape.shards * shape.copies);
@@ -65,11 +71,14 @@ fn put_summary<K: Sink>(
     ends: &[Result<WriterSum, WorkFault>],
     writers: u8,
     core: &Core,
+    reached: Result<bool, CoreFault>,
     line: u64,
     sink: &mut K,
     watch: &mut Watch,
 ) -> Status
-    requires { line < 2 ^ 62 }
+    requires room { line < 2 ^ 62 }
+    requires reached { IfOk reached (λ are. are ≡ true → EachIsReached (plain_store core.now)) }
+    requires only { IfOk reached (λ are. EachIsReached (plain_store core.now) → are ≡ true) }
     ensures puts { PutsSummary writers ends.now core.now line (record {
       ending = result;
       old = K.got sink.old;
@@ -82,7 +91,10 @@ fn put_summary<K: Sink>(
     let Ok(sums) = sums_of(alloc, ends, writers) else {
         return Status::NoMemory;
     };
-    if !has_tallied(sums.as_slice(), core, line) {
+    let Ok(reached) = reached else {
+        return Status::NoMemory;
+    };
+    if !has_tallied(sums.as_slice(), core, reached, line) {
         return Status::NoMemory;
     }
     let Ok(text) = summary_of(alloc, sums.as_slice(), core) else {
@@ -113,6 +125,8 @@ pub(crate) fn conclude<A: Addresser, K: Sink, D: Disk>(
     ensures course { result.course ≡ [] }
     ensures ends { (load : Load) (book : Book) → load.set.name ≡ A.name naming.now
         → load.writers ≡ writers → joined.core ≡ book.core
+        → (book.ended ≡ None → MayGoOn book.core (length joined.peers.logs.items)
+        (vec_len disks.old) watch.old)
         → IsJudgedSo load book (team_of joined.peers joined.askers) judgement
         → (last : Core) × (result.journal.entries ≡ last.journal)
         × (result.refused ≡ refused_when result.status last)
@@ -151,9 +165,18 @@ pub(crate) fn conclude<A: Addresser, K: Sink, D: Disk>(
     let line = core.last_line();
     let mut cluster = Cluster::resume(alloc, core, logs);
     let did = finish(&mut cluster, naming, disks.as_mut_slice(), watch, line);
-    let (core, _logs) = cluster.into_parts();
+    let (core, reached) = last_core(alloc, cluster);
     let status = match did {
-        Ok(()) => put_summary(alloc, ends.as_slice(), writers, &core, line, sink, watch),
+        Ok(()) => put_summary(
+            alloc,
+            ends.as_slice(),
+            writers,
+            &core,
+            reached,
+            line,
+            sink,
+            watch,
+        ),
         Err(fault) => cluster_status(fault),
     };
     outcome_of(alloc, status, core, kept, stored)

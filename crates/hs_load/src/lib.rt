@@ -14,6 +14,7 @@ mod names;
 mod outcome;
 mod owners;
 mod places;
+mod reaching;
 mod resuming;
 mod seating;
 mod summing;

@@ -19,7 +19,6 @@ use crate::names::sessions_of;
 use crate::outcome::{cluster_status, outcome_of};
 use crate::working::work_and_join;
 use hs_block::Addresser;
-use hs_book::nobody_joins;
 use hs_cluster::{Cluster, ClusterFault, Opened};
 use hs_core::Core;
 use hs_desk::Gate;
@@ -59,6 +58,10 @@ fn open_all<A: Addresser, D: Disk>(
         (map (λ disk. seen_as (D.size disk) (D.stands disk) (D.faults disk)) disks.new.items)) }
     ensures ready { IfOk result (λ opened. OnOk opened.done (AreReady D.tells opened.cluster.logs
         (map (λ disk. seen_as (D.size disk) (D.stands disk) (D.faults disk)) disks.new.items))) }
+    ensures joins { IfOk result (λ opened. OnOk opened.done (NobodyJoins opened.cluster.core)) }
+    ensures shape { IfOk result (λ opened. opened.cluster.core.members.shape ≡ shape) }
+    ensures moment { IfOk result (λ opened. OnOk opened.done
+        (opened.cluster.core.moment ≤ watch.new)) }
     ensures falls { NoneFalls
         (map (λ disk. seen_as (D.size disk) (D.stands disk) (D.faults disk)) disks.old.items)
         (map (λ disk. seen_as (D.size disk) (D.stands disk) (D.faults disk)) disks.new.items) }
@@ -99,6 +102,9 @@ fn work_and_conclude<
     requires going { core.ended ≡ None }
     requires calm { NobodyJoins core }
     requires count { vec_len logs ≡ vec_len disks.old }
+    requires shape { vec_len disks.old
+        ≡ core.members.shape.shards * core.members.shape.copies }
+    requires moment { core.moment ≤ watch.old }
     requires few { vec_len disks.old ≤ 256 }
     requires ready { AreReady D.tells logs.items
         (map (λ disk. seen_as (D.size disk) (D.stands disk) (D.faults disk)) disks.old.items) }
@@ -191,15 +197,6 @@ fn load_on<
         return outcome_of(alloc, status, core, Vec::new(alloc), Vec::new(alloc));
     }
     if core.ended().is_some() || logs.len() != disks.len() || disks.len() > 256 {
-        return outcome_of(
-            alloc,
-            Status::NoMemory,
-            core,
-            Vec::new(alloc),
-            Vec::new(alloc),
-        );
-    }
-    if !nobody_joins(&core) {
         return outcome_of(
             alloc,
             Status::NoMemory,

@@ -12,7 +12,8 @@ use hs_peerlog::PeerLog;
 
 /// Whether a log ends with the entry of a number, and has nothing unsealed.
 fn ends_as(log: &PeerLog, number: u64) -> bool
-    ensures { result ≡ true → EndsWith number log.now }
+    ensures found { result ≡ true → EndsWith number log.now }
+    ensures only { EndsWith number log.now → result ≡ true }
 {
     log.last() == number && log.unsealed().is_none()
 }
@@ -20,8 +21,10 @@ fn ends_as(log: &PeerLog, number: u64) -> bool
 /// Whether a peer is down, or has a log that ends with the last entry that it is known to have sealed.
 fn is_fit(core: &Core, logs: &[Option<PeerLog>], peer: u8) -> bool
     requires { IsPeer core.now.members.shape peer }
-    ensures { result ≡ true → is_down (status_of peer core.now) ≡ false
+    ensures found { result ≡ true → is_down (status_of peer core.now) ≡ false
         → IsSomeAnd (log_at logs.now peer) (EndsWith (sealed_of peer core.now)) }
+    ensures only { (is_down (status_of peer core.now) ≡ false
+        → IsSomeAnd (log_at logs.now peer) (EndsWith (sealed_of peer core.now))) → result ≡ true }
 {
     match core.status(peer) {
         PeerStatus::Down => true,
@@ -35,7 +38,8 @@ fn is_fit(core: &Core, logs: &[Option<PeerLog>], peer: u8) -> bool
 /// Whether each peer of a core is down, or has a log that ends with the last entry that it is known to
 /// have sealed, and has nothing unsealed. It takes no memory.
 pub fn are_fit(core: &Core, logs: &[Option<PeerLog>]) -> bool
-    ensures { result ≡ true → EndAsSealed core.now logs.now }
+    ensures found { result ≡ true → EndAsSealed core.now logs.now }
+    ensures only { EndAsSealed core.now logs.now → result ≡ true }
 {
     let shape = core.shape();
     for peer in 0..shape.shards * shape.copies {

@@ -1,6 +1,8 @@
 //! Whether what the last core counts is what the writers did, and the last deletions run.
 ghost use Rattle.std.specs.List.{list_any};
 ghost use Rattle.std.specs.Prelude.{◌≡◌, ◌+◌, ◌<◌, ◌^◌, sum_by, true};
+ghost use Rattle.hs_core_words.specs.Plain.{plain_store};
+ghost use Rattle.hs_load.specs.Reached.{EachIsReached};
 ghost use Rattle.hs_load.specs.Tallied.{HasTallied, begins_run, deletes, is_delete, is_deletion, runs_at};
 
 use crate::counting::roots_in;
@@ -66,7 +68,8 @@ fn one_runs_at(line: u64, entries: &[JournalEntry]) -> bool
 
 /// Whether so many files were kept.
 fn are_kept(sums: &[WriterSum], roots: u64) -> bool
-    ensures { result ≡ true → roots ≡ sum_by (λ sum. sum.kept) sums.now }
+    ensures found { result ≡ true → roots ≡ sum_by (λ sum. sum.kept) sums.now }
+    ensures only { roots ≡ sum_by (λ sum. sum.kept) sums.now → result ≡ true }
 {
     let mut left = roots;
     for sum in sums {
@@ -78,15 +81,19 @@ fn are_kept(sums: &[WriterSum], roots: u64) -> bool
     left == 0
 }
 
-/// Whether a core has as many retained roots as files were kept, and its journal has the deletions of a
-/// load, of which the last two, behind a line, run. It takes no memory.
-pub(crate) fn has_tallied(sums: &[WriterSum], core: &Core, line: u64) -> bool
-    requires { line < 2 ^ 62 }
-    ensures { result ≡ true → HasTallied sums.now core.now line }
+/// Whether a core has as many retained roots as files were kept, which reach each of its blocks (`reached`),
+/// and its journal has the deletions of a load, of which the last two, behind a line, run. It takes no
+/// memory.
+pub(crate) fn has_tallied(sums: &[WriterSum], core: &Core, reached: bool, line: u64) -> bool
+    requires room { line < 2 ^ 62 }
+    requires reached { reached ≡ true → EachIsReached (plain_store core.now) }
+    requires only { EachIsReached (plain_store core.now) → reached ≡ true }
+    ensures found { result ≡ true → HasTallied sums.now core.now line }
+    ensures only { HasTallied sums.now core.now line → result ≡ true }
 {
     let entries = core.journal().entries();
     let deletions = entries.iter().filter(|entry| is_deletion(entry)).count();
-    if deletions != DELETIONS || !are_kept(sums, roots_in(core)) {
+    if !reached || deletions != DELETIONS || !are_kept(sums, roots_in(core)) {
         return false;
     }
     one_runs_at(line + 2, entries) && one_runs_at(line + 4, entries)

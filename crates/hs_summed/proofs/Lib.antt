@@ -1,1 +1,5 @@
+mod FitLemmas
+mod OpensLemmas
+mod SealedLemmas
+mod StoreLemmas
 mod SumLemmas

@@ -1,1 +1,3 @@
+pub mod Fit
+pub mod Store
 pub mod Summed

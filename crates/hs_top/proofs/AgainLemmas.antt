@@ -132,7 +132,7 @@ module _ (laws : StopsAlong) (tells : Type 0) (S : Script) (r : Ran) (one : S.se
         may_from S r ends called limits commands next follows
         (stopped_sound (script_after S limits commands) next images (sound_too S.set limits (taken_lists S.set.shape (image_logs images)) sound) (seen_after S r ends called limits commands next follows) (same_count S r ends called limits commands next follows) none)
 
-    pub again_alone : S.set.shape.shards ≡ 1 → AreSoundAlong after.set (replicate S.set.shape.shards []) → MayStop (script_after S limits commands) next
+    pub again_alone : S.set.shape.shards ≡ 1 → AreSoundAlong (script_after S limits commands).set (replicate S.set.shape.shards []) → MayStop (script_after S limits commands) next
     again_alone shards blank =
         may_from S r ends called limits commands next follows
         (alone_sound (script_after S limits commands) next images shards one blank (sound_too S.set limits (taken_lists S.set.shape (image_logs images)) sound) (seen_after S r ends called limits commands next follows) (same_count S r ends called limits commands next follows))

@@ -2,7 +2,7 @@
 use Rattle.std.proofs.Common.{◌≡◌, ap, refl, ℕ, List, Option, Some, None}
 use Rattle.std.proofs.lemmas.Bool.{false≢true}
 use Rattle.std.specs.Prelude.{IfSome, IsSome}
-use Rattle.hs_clauses.proofs.AsideLemmas.{set_aside}
+use Rattle.hs_clauses.proofs.AsideLemmas.{each_taken, set_aside, tells_down}
 use Rattle.hs_clauses.proofs.CostLemmas.{costs_of}
 use Rattle.hs_clauses.proofs.ToldRunLemmas.{told_of}
 use Rattle.hs_clauses.specs.Shown.{HasItsDisks, IsBehindAtEntry, IsToldAs, IsToldRun, RunsSoundly, ToldAs}
@@ -89,7 +89,7 @@ module _ (laws : Laws) (tells : Type 0) (S : Script) (r : Ran) (names : GivesAdd
         laws.notes S r story went read.read (runs.lost told) (λ going. runs.failed told (counted going))
         (λ several going peer low bad. record {
           told = aside_as tells S r story runs told (counted going) peer low bad;
-          aside = λ untaken. set_aside S r story went cluster.shape going peer low untaken bad;
+          aside = λ untaken. set_aside S r story went cluster.shape (each_taken S story.found cluster.shape went.found.logs went.found.kept going) (tells_down S r story went cluster.shape going) peer low untaken bad;
         })
       where
         counted : (first_core S.set story.found).ended ≡ None → AreAllCounted (first_core S.set story.found) (all_events story) runs.shown.disks runs.span.left

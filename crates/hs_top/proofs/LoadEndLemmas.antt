@@ -11,7 +11,7 @@ use Rattle.hs_desk.specs.declared.fault.CoreFault.TheVariants as core
 use Rattle.hs_limits.specs.declared.address.Address.{Address}
 use Rattle.hs_limits.specs.declared.shape.Shape.{Shape}
 use Rattle.hs_load.specs.Judged.{Difference, Ended, IsJudged, IsTorn, Job, Load, Mismatched, Numbers, Team, TornAt, core_status, difference_in}
-use Rattle.hs_load.specs.Loaded.{Close, Cut, Empty, EndsLoad, EndsTeam, EndsWork, Full, Handed, IsLoaded, Judged, Put, PutsSummary, Shut, Summed, Unopened, Unput, Unsummed, Unworked, Wanting, Worked, cluster_status}
+use Rattle.hs_load.specs.Loaded.{Close, Cut, Empty, EndsLoad, EndsTeam, EndsWork, Full, Handed, IsLoaded, Judged, Put, PutsSummary, Shut, Summed, Unopened, Unagreed, Unfit, Unput, Unsummed, Unworked, Wanting, Worked, cluster_status}
 use Rattle.hs_peerlog.specs.Lists.{Keeping}
 use Rattle.hs_promise.specs.Run.{Ran}
 use Rattle.hs_promise.specs.declared.load.Stored.{Stored}
@@ -74,11 +74,13 @@ of_judged load book team s (Mismatched d is going turn reported mismatch) = of_d
 
 of_summary : (writers : ℕ) (ends : List (Result WriterSum WorkFault)) (core : Core) (line : ℕ) (c : Close) → PutsSummary writers ends core line c → IsOther c.ending
 of_summary writers ends core line c (Unsummed is none) = so c.ending status.NoMemory is tt
+of_summary writers ends core line c (Unagreed sums are differs is none) = so c.ending status.NoMemory is tt
 of_summary writers ends core line c (Put sums are tallied is put later) = so c.ending status.Done is tt
 of_summary writers ends core line c (Unput sums are tallied is put risen later) = so c.ending status.WriteFault is tt
 
 of_work : (tells : Type 0) (load : Load) (book : Book) (team : Team) (left new : List DiskSeen) (core : Core) (c : Close) → EndsWork tells load book team left new core c → IsOther c.ending
 of_work tells load book team left new core c (Wanting is none same calm) = so c.ending status.NoMemory is tt
+of_work tells load book team left new core c (Unfit same unfit is none at calm) = so c.ending status.NoMemory is tt
 of_work tells load book team left new core c (Judged rested judged none same calm) = of_judged load book team c.ending judged
 of_work tells load book team left new core c (Cut f same runs is none) = so c.ending (cluster_status f) is (of_cluster f)
 of_work tells load book team left new core c (Summed same runs puts) = of_summary load.writers team.ends core book.core.progress.last_line c puts

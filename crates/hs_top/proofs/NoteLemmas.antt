@@ -101,7 +101,7 @@ first_is peer e is = by (down_in e.reply) is
 -- it is told to be down
 some_told : (course : List CourseItem) (peer : ℕ) (es : List JournalEntry) → list_any (tells_aside course peer) es ≡ true → 1 ≤ note_count peer es
 some_told course peer [] h = absurd (cc h)
-some_told course peer (e ∷ es) h = by (is_note peer e) refl
+some_told course peer (e ∷ es) h = by (λ k. some_told course peer es k) (is_note peer e) refl
   where
     more : note_count peer (e ∷ es) ≡ cond (is_note peer e) 1 0 + note_count peer es
     more = sum_by-cons (λ (x : JournalEntry). cond (is_note peer x) 1 0) e es
@@ -114,12 +114,12 @@ some_told course peer (e ∷ es) h = by (is_note peer e) refl
     later none true t k = let wrong : false ≡ true = sym none ∙ first_is peer e (and_left (is_first_note peer e) (not (was_good course e.moment peer)) t) in absurd (cc wrong)
     later none false t k = k
 
-    by : (b : Bool) → is_note peer e ≡ b → 1 ≤ note_count peer (e ∷ es)
-    by true is = let one : cond (is_note peer e) 1 0 ≡ 1 = ap (λ (b : Bool). cond b 1 0) is in omega (arith, more, one)
-    by false is =
-        let rest : 1 ≤ note_count peer es = some_told course peer es (later is (tells_aside course peer e) refl h) in
-        let none : cond (is_note peer e) 1 0 ≡ 0 = ap (λ (b : Bool). cond b 1 0) is in
-        omega (arith, more, none, rest)
+    counts : (b : Bool) → is_note peer e ≡ b → cond b 1 0 + note_count peer es ≡ note_count peer (e ∷ es)
+    counts b is = sym (more ∙ ap (λ (b : Bool). cond b 1 0 + note_count peer es) is)
+
+    by : (list_any (tells_aside course peer) es ≡ true → 1 ≤ note_count peer es) → (b : Bool) → is_note peer e ≡ b → 1 ≤ note_count peer (e ∷ es)
+    by rest true is = let sum : 1 + note_count peer es ≡ note_count peer (e ∷ es) = counts true is in omega (arith, sum)
+    by rest false is = let sum : 0 + note_count peer es ≡ note_count peer (e ∷ es) = counts false is in let low = rest (later is (tells_aside course peer e) refl h) in omega (arith, sum, low)
 
 -- so why is one of the causes of notes
 pub aside_caused : (S : Script) (r : Ran) → NotesCause S r → AsideCause S r

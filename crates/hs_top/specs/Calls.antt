@@ -10,7 +10,6 @@ use Rattle.hs_kept.specs.Kept.{FetchesAndGives}
 use Rattle.hs_kept.specs.Stopped.{StoresAndKeeps}
 use Rattle.hs_limits.specs.declared.address.Address.{Address}
 use Rattle.hs_limits.specs.declared.shape.Shape.{Shape}
-use Rattle.hs_load.specs.Loaded.{IsLoaded}
 use Rattle.hs_model.specs.declared.command.Command.{Command}
 use Rattle.hs_ports.specs.Moments.{disk_at}
 use Rattle.hs_ports.specs.Objects.{CountsStand, KeepsPast, KeepsTime}
@@ -32,6 +31,7 @@ use Rattle.hs_run.specs.Machine.{IsRunThrough}
 use Rattle.hs_script.specs.declared.invocation.Task.{Task}
 use Rattle.hs_script.specs.declared.invocation.Task.TheVariants as task
 use Rattle.hs_side.specs.Current.{list_in}
+use Rattle.hs_summed.specs.Store.{LoadsStore}
 use Rattle.hs_top.specs.Words.{served_on}
 
 -- ---- what is promised of a run: `Promise` of hs_promise, and what stands beside it of any run
@@ -83,10 +83,10 @@ pub record RunsSo (tells : Type 0) (S : Script) (r : Ran) : Type 0 where
   pub promised : Promised tells S r
   pub through : IsRunThrough tells S r
 
--- what is asked for is done: a run of some commands goes so; a load has its writers and workers over an empty store; an audit says what the store amounts to, and a scrub whether its copies agree; a file is stored and kept, or that of a key is fetched; a root is copied into a second store; nothing else is served
+-- what is asked for is done: a run of some commands goes so; a load has its writers and workers over an empty store, and sums up the store that it leaves; an audit says what the store amounts to, and a scrub whether its copies agree; a file is stored and kept, or that of a key is fetched; a root is copied into a second store; nothing else is served
 abbrev pub Does : Type 0 → (List ℕ → Address) → Shape → Task → Ran → Type 0
 Does tells name shape (task.Script limits visits cache) r = (commands : ℕ → Option Command) × RunsSo tells (script_of name (record { shape = shape; limits = limits }) commands) r
-Does tells name shape (task.Load seed writers files) r = IsLoaded tells name shape seed writers files r
+Does tells name shape (task.Load seed writers files) r = LoadsStore tells name shape seed writers files r
 Does tells name shape task.Audit r = IsAudited tells name shape r
 Does tells name shape (task.Scrub from) r = IsCompared tells shape from r
 Does tells name shape (task.Store key) r = StoresAndKeeps tells name shape key r

@@ -14,6 +14,7 @@ use hs_ports::{Disk, Sink, Watch};
 use hs_promise::{Outcome, Status};
 use hs_run::closed;
 use hs_script::Task;
+use hs_summed::a_done_load_leaves_its_store;
 use std::alloc::Global;
 use std::sync::Wait;
 use std::thread::Threads;
@@ -55,6 +56,7 @@ pub fn load_with<
         (handed watch.new (map (λ disk. (D.stands disk, D.faults disk)) disks.new.items)
         (K.got sink.new, K.faults sink.new) source)) }
 {
+    a_done_load_leaves_its_store::<D>();
     let Some(asked) = served_on(words, disks.len()) else {
         return closed(alloc, Status::Usage, 0);
     };

@@ -95,9 +95,10 @@ limit where the option is not given:
   --pool N      messages under way between peers; from 16 on; 65536
   --epochs N    the last epoch, at which no deletion begins; 281474976710655
 
-One more changes no answer: with --cache N, 0 to 4096, so many blocks that were
-read lately are kept in memory, at most 67,591 bytes each, and a read of one of
-these asks no disk; 0, as without it, keeps none.
+One more changes no answer: so many blocks that were read lately are kept in
+memory, and a read of one of these asks no disk:
+
+  --cache N     0 to 4096 blocks of at most 67591 bytes; 0, as without it, none
 
 The lines of a script, each ended by a line feed:
 

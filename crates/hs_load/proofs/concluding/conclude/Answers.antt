@@ -1,19 +1,23 @@
-use Rattle.std.proofs.Common.{◌≡◌, ◌∙◌, ◌++◌, List, [], Result, ap, sym, subst, refl, arith, drop, map, take, None, Option, Some, true, length}
+use Rattle.std.proofs.Common.{◌≡◌, ◌∙◌, ◌<◌, ◌^◌, ◌++◌, vec_len, List, [], Result, ap, sym, subst, refl, arith, drop, map, take, None, Option, Some, true, length}
 use Rattle.std.specs.Prelude.{⊤}
+use Rattle.std.proofs.lemmas.Bool.{false≢true}
 use Rattle.std.proofs.lemmas.List.{length-map}
 use Rattle.hs_book.specs.History.{NobodyJoins}
+use Rattle.hs_cluster.specs.Resuming.{EndAsSealed}
 use Rattle.hs_cluster.specs.Running.{Running}
 use Rattle.hs_cluster.specs.declared.fault.ClusterFault.{ClusterFault}
 use Rattle.hs_core_words.specs.State.{Core}
+use Rattle.hs_peerlog.specs.Lists.{Keeping}
 use Rattle.hs_promise.specs.declared.status.Status.{Status}
 use Rattle.hs_run.specs.Between.{IsReadyAt}
 use Rattle.hs_taking.specs.Disks.{AreReady, DiskSeen, seen_as}
-use Rattle.hs_load.specs.Joined.{team_of}
+use Rattle.hs_load.specs.Joined.{MayGoOn, team_of}
 use Rattle.hs_load.specs.Judged.{AreSame, Team}
 use Rattle.hs_load.specs.Judgement.{IsTold}
-use Rattle.hs_load.specs.Loaded.{Cut, EndsWork, RunsLast, Stand, Wanting, refused_when}
+use Rattle.hs_load.specs.Loaded.{Cut, EndsWork, RunsLast, Stand, Unfit, refused_when}
 use Rattle.hs_load.proofs.ConcludeLemmas.{ends_summed, ends_told, runs_last}
 use Rattle.hs_load.proofs.ListLemmas.{written}
+use Rattle.hs_load.proofs.RestLemmas.{may_there}
 use Rattle.hs_load.proofs.concluding.conclude.Goals as goal
 use Rattle.hs_load.proofs.concluding.conclude.Goals.{in-Ok, in-Err}
 
@@ -45,7 +49,7 @@ returns-clause-ticks g c =
     ]
 
 pub returns-in-Some-clause-ends : goal.returns-in-Some-clause-ends
-returns-in-Some-clause-ends g c = λ load book named writers core so.
+returns-in-Some-clause-ends g c = λ load book named writers core rests so.
     let team : Team = team_of c.args.joined.peers c.args.joined.askers in (
       c.args.joined.core,
       c.outcome_of.ensures.journal,
@@ -54,19 +58,28 @@ returns-in-Some-clause-ends g c = λ load book named writers core so.
     )
 
 pub returns-then-not-can_resume-clause-ends : goal.returns-then-not-can_resume-clause-ends
-returns-then-not-can_resume-clause-ends g c = λ load book named writers core so. (
-  c.args.joined.core,
-  c.outcome_of-then-not-can_resume.ensures.journal,
-  c.outcome_of-then-not-can_resume.ensures.refused ∙ ap (λ (s : Status). refused_when s c.args.joined.core) (sym c.outcome_of-then-not-can_resume.ensures.status),
-  Wanting c.outcome_of-then-not-can_resume.ensures.status (refl, refl) core refl,
-)
+returns-then-not-can_resume-clause-ends g c = λ load book named writers core rests so.
+    let team : Team = team_of c.args.joined.peers c.args.joined.askers in
+    let same : AreSame load book team = subst (λ (o : Option Status). IsTold load book team o) c.in_default.is (c.status_of.ensures load book team so) in
+    let logs : c.as_slice.result.now ≡ c.args.joined.peers.logs.items = c.as_slice.ensures.value in
+    let may : MayGoOn c.args.joined.core (length c.as_slice.result.now) c.len.result c.now.result
+    = may_there book.core c.args.joined.core (length c.args.joined.peers.logs.items) (vec_len c.args.disks.now) c.args.watch.now _ _ _ (rests same.going) core (ap (λ (ls : List (Option Keeping)). length ls) logs) c.len.ensures c.now.ensures.value in (
+      c.args.joined.core,
+      c.outcome_of-then-not-can_resume.ensures.journal,
+      c.outcome_of-then-not-can_resume.ensures.refused ∙ ap (λ (s : Status). refused_when s c.args.joined.core) (sym c.outcome_of-then-not-can_resume.ensures.status),
+      Unfit same
+          (λ fit low. false≢true (sym c.if-not-can_resume.true ∙ c.can_resume.ensures.only may
+          (subst (λ (ls : List (Option Keeping)). EndAsSealed c.args.joined.core ls) (sym logs) (subst (λ (k : Core). EndAsSealed k team.logs) (sym core) fit))
+          (subst (λ (k : Core). k.progress.last_line < 2 ^ 62) (sym core) low)))
+          c.outcome_of-then-not-can_resume.ensures.status (refl, refl) core refl,
+    )
 
 pub returns-clause-ends : goal.returns-clause-ends
-returns-clause-ends g c = λ load book named writers core so.
+returns-clause-ends g c = λ load book named writers core rests so.
     let seen : g.row.D.Denot → DiskSeen = λ disk. seen_as (g.D.Disk.size disk) (g.D.Disk.stands disk) (g.D.Disk.faults disk) in
     let team : Team = team_of c.args.joined.peers c.args.joined.askers in
     let same : AreSame load book team = subst (λ (o : Option Status). IsTold load book team o) c.in_default.is (c.status_of.ensures load book team so) in
-    let last = c.into_parts-core.result.0 in
+    let last = c.last_core-core.result.0 in
     let news = c.finish-did.new.disks in
     let count = c.finish-did.ensures.count in
     let len = c.as_mut_slice.ensures.len in
@@ -77,7 +90,8 @@ returns-clause-ends g c = λ load book named writers core so.
     let runs : RunsLast g.D.Disk.tells load book team left new last c.finish-did.result
     = runs_last g.D.Disk.tells load book team left new last c.finish-did.result (g.A.Addresser.name c.args.naming.now) c.args.watch.now c.last_line-line.result c.resume-cluster.result (map seen c.as_mut_slice.result.now) end c.finish-did.ensures.runs.1
     named (c.resume-cluster.ensures ∙ (λ i. record { core = core i; logs = team.logs; course = []; cache = None })) (ap (λ xs. map seen xs) c.as_mut_slice.ensures.value) (c.last_line-line.ensures ∙ ap (λ (k : Core). k.progress.last_line) core)
-    c.into_parts-core.ensures.core (ap (λ xs. map seen xs) back) in (
+    c.last_core-core.ensures.core (ap (λ xs. map seen xs) back) (let moment = c.can_resume.ensures.moment c.if-not-can_resume.false in let now = c.now.ensures.value in let same = ap (λ (k : Core). k.moment) core in omega (arith, moment, now, same))
+    (subst (λ (k : Core). EndAsSealed k team.logs) core (subst (λ (ls : List (Option Keeping)). EndAsSealed c.args.joined.core ls) c.as_slice.ensures.value (c.can_resume.ensures.lasts c.if-not-can_resume.false))) in (
       last,
       c.outcome_of-2.ensures.journal,
       c.outcome_of-2.ensures.refused ∙ ap (λ (s : Status). refused_when s last) (sym c.outcome_of-2.ensures.status),

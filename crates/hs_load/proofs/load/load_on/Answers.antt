@@ -1,5 +1,6 @@
 use Rattle.std.proofs.Common.{◌≡◌, ◌∙◌, ◌+◌, ◌<◌, ap, map, refl, subst, sym, Result, Ok, arith}
-use Rattle.std.specs.Prelude.{⊤}
+use Rattle.std.specs.Prelude.{OnOk, ⊤}
+use Rattle.hs_book.specs.History.{NobodyJoins}
 use Rattle.hs_cluster.specs.Begins.{HasOpened}
 use Rattle.hs_cluster.specs.declared.fault.ClusterFault.{ClusterFault}
 use Rattle.hs_core_words.specs.State.{Core}
@@ -54,17 +55,10 @@ returns-then-is_some-clause-ends g c =
     let no_roots : roots_in c.in-Ok.opened.cluster.core ≡ 0 = let low = c.if-roots-gt0.false in omega (arith, low, roots) in
     Empty c.open_all.new.watch c.in-Ok.opened.cluster (map seen c.open_all.new.disks.items) opened no_blocks no_roots (Unworked c.outcome_of-then-is_some.ensures.status (refl, refl) (c.outcome_of-then-is_some.ensures.kept ∙ c.new-then-is_some.ensures.items) (c.outcome_of-then-is_some.ensures.stored ∙ c.new-then-is_some-2.ensures.items))
 
-pub returns-then-not-nobody_joins-clause-ends : goal.returns-then-not-nobody_joins-clause-ends
-returns-then-not-nobody_joins-clause-ends g c =
-    let seen : g.row.D.Denot → DiskSeen = λ disk. seen_as (g.D.Disk.size disk) (g.D.Disk.stands disk) (g.D.Disk.faults disk) in
-    let core : c.into_parts-core.result.0 ≡ c.in-Ok.opened.cluster.core = c.into_parts-core.ensures.core in
-    let opened : HasOpened g.D.Disk.tells (record { name = g.A.Addresser.name c.args.naming.now; limits = greatest_limits; shape = c.args.shape }) (record { before = c.args.watch.now; now = c.open_all.new.watch; old = map seen c.args.disks.now.items; new = map seen c.open_all.new.disks.items }) c.in-Ok.opened.cluster (Ok tt)
-    = subst (λ (d : Result ⊤ ClusterFault). HasOpened g.D.Disk.tells (record { name = g.A.Addresser.name c.args.naming.now; limits = greatest_limits; shape = c.args.shape }) (record { before = c.args.watch.now; now = c.open_all.new.watch; old = map seen c.args.disks.now.items; new = map seen c.open_all.new.disks.items }) c.in-Ok.opened.cluster d) c.in_default.is c.in-Ok.ensures.opened in
-    let blocks : c.blocks_in-blocks.result ≡ blocks_in c.in-Ok.opened.cluster.core = c.blocks_in-blocks.ensures ∙ ap (λ (k : Core). blocks_in k) core in
-    let roots : c.roots_in-roots.result ≡ roots_in c.in-Ok.opened.cluster.core = c.roots_in-roots.ensures ∙ ap (λ (k : Core). roots_in k) core in
-    let no_blocks : blocks_in c.in-Ok.opened.cluster.core ≡ 0 = let low = c.if-blocks-gt0.false in omega (arith, low, blocks) in
-    let no_roots : roots_in c.in-Ok.opened.cluster.core ≡ 0 = let low = c.if-roots-gt0.false in omega (arith, low, roots) in
-    Empty c.open_all.new.watch c.in-Ok.opened.cluster (map seen c.open_all.new.disks.items) opened no_blocks no_roots (Unworked c.outcome_of-then-not-nobody_joins.ensures.status (refl, refl) (c.outcome_of-then-not-nobody_joins.ensures.kept ∙ c.new-then-not-nobody_joins.ensures.items) (c.outcome_of-then-not-nobody_joins.ensures.stored ∙ c.new-then-not-nobody_joins-2.ensures.items))
+pub work_and_conclude-requires-clause-calm : goal.work_and_conclude-requires-clause-calm
+work_and_conclude-requires-clause-calm g c =
+    subst (λ (k : Core). NobodyJoins k) (sym c.into_parts-core.ensures.core)
+    (subst (λ (d : Result ⊤ ClusterFault). OnOk d (NobodyJoins c.in-Ok.opened.cluster.core)) c.in_default.is c.in-Ok.ensures.joins)
 
 pub returns-clause-ends : goal.returns-clause-ends
 returns-clause-ends g c =
