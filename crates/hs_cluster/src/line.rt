@@ -70,6 +70,8 @@ impl Cluster {
         // A line that has a peer fail puts its log out of use, and no other.
         ensures falls { (peer : ℕ) → command ≡ Fail peer → (p : ℕ) → p ≢ peer
             → log_at self.new.logs p ≡ log_at self.old.logs p }
+        ensures out { (peer : ℕ) → command ≡ Fail peer
+            → OnOk result (log_at self.new.logs peer ≡ None) }
 
         // The list of a peer that is not joining only goes on, as long as its log is in use, and its disk
         // stays as it is where that is out of use; and nobody begins to join but by a line that starts it.
