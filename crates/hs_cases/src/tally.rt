@@ -30,6 +30,8 @@ pub struct Tally {
     pub told: Text,
     /// Whether the cases are wrong on purpose from here on.
     pub is_wrong: bool,
+    /// With how many copies of each shard cases of one copy are tried from here on, where they are.
+    pub copies: Option<u8>,
     pub right: Count,
     pub wrong: Count,
 }
@@ -41,6 +43,7 @@ impl Tally {
             judge: Judge::new(alloc, UNITS),
             told: Text::new(alloc),
             is_wrong: false,
+            copies: None,
             right: NONE,
             wrong: NONE,
         }
@@ -81,8 +84,9 @@ impl Tally {
         };
         self.judge.begin_case();
         if head.is("case") {
-            judge_case(&mut self.judge, head, body);
-            self.tell(head.rest);
+            if judge_case(&mut self.judge, head, body, self.copies) {
+                self.tell(head.rest);
+            }
         } else {
             take_names(&mut self.judge, case);
             if self.judge.has_differences() {

@@ -1,14 +1,20 @@
 //! The words of the command line: files of cases.
 use crate::tally::Tally;
+use hs_casebook::found;
 use std::io::{ErrorKind, Read, Write};
 use std::rt::{Env, Files};
 use std::{env, fs, io};
 
+/// The words behind which cases of one copy of each shard are tried with several.
+const COPIES: [(&str, u8); 2] = [("--two-copies", 2), ("--three-copies", 3)];
+
 /// How many bytes of a file are read.
 const MOST_BYTES: usize = 4_194_304;
 
-/// Judges the cases of the files that the words name. Each case of a file behind the word `--wrong`
-/// is wrong on purpose, and has to differ. It answers whether all is so.
+/// Judges the cases of the files that the words name. Those of a file behind the words `--two-copies` or
+/// `--three-copies` are tried with so many copies of each shard, where they are of one copy and name no
+/// peer. Each case of a file behind the word `--wrong` is wrong on purpose, and has to differ. It answers
+/// whether all is so.
 pub fn judge_words<R: Env + Files + AllocGlobal, W: Write>(
     rt: &R,
     out: &mut W,
@@ -27,7 +33,13 @@ pub fn judge_words<R: Env + Files + AllocGlobal, W: Write>(
 fn judge_word<R: Files + AllocGlobal>(rt: &R, tally: &mut Tally, word: &str) {
     if word == "--wrong" {
         tally.is_wrong = true;
+        tally.copies = None;
         tally.told.put("Each of these is wrong in one place, and has to differ:\n");
+        return;
+    }
+    if let Some(copies) = found(&COPIES, word.as_bytes()) {
+        tally.copies = Some(copies);
+        tally.told.put_form("With # copies of each shard:\n", &[u64::from(copies)]);
         return;
     }
     match text_of(rt, word) {
