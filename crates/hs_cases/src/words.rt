@@ -39,7 +39,9 @@ fn judge_word<R: Files + AllocGlobal>(rt: &R, tally: &mut Tally, word: &str) {
     }
     if let Some(copies) = found(&COPIES, word.as_bytes()) {
         tally.copies = Some(copies);
-        tally.told.put_form("With # copies of each shard:\n", &[u64::from(copies)]);
+        tally
+            .told
+            .put_form("With # copies of each shard:\n", &[u64::from(copies)]);
         return;
     }
     match text_of(rt, word) {
