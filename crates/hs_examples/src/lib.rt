@@ -4,6 +4,4 @@
 #[cfg(test)]
 mod loads;
 #[cfg(test)]
-mod replay;
-#[cfg(test)]
 mod tests;

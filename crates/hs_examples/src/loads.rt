@@ -1,10 +1,8 @@
 //! Loads over disks in memory.
-use crate::replay::{finds_changed, replays};
 use crate::tests::words_of;
 use hs_block::ShaNames;
-use hs_limits::Shape;
 use hs_ports::{Disk, ListSink, ListSource, MemoryDisk, Watch};
-use hs_promise::{Outcome, Status};
+use hs_promise::Outcome;
 use hs_top::{exit_code, hydra, load_with};
 use hs_workers_calls::{Flags, HeldDisk, RaisingGate};
 use std::alloc::{AllocError, Global};
@@ -34,21 +32,8 @@ fn run<H: Threads + Wait + Sync, D: Disk + Drop + Send>(
     text: &str,
     disks: &mut Vec<D>,
 ) -> Result<(u8, Vec<u8>), AllocError> {
-    let (outcome, text) = run_whole(alloc, rt, text, b"", disks)?;
-    Ok((exit_code(&outcome.status), text))
-}
-
-/// Runs a command over the disks, with a script: its outcome, and what it put.
-fn run_whole<H: Threads + Wait + Sync, D: Disk + Drop + Send>(
-    alloc: Global,
-    rt: &H,
-    text: &str,
-    script: &[u8],
-    disks: &mut Vec<D>,
-) -> Result<(Outcome, Vec<u8>), AllocError> {
     let words = words_of(alloc, text)?;
-    let script = Vec::from_slice(alloc, script)?;
-    let mut source = ListSource::new(alloc, script, Vec::new(alloc));
+    let mut source = ListSource::new(alloc, Vec::new(alloc), Vec::new(alloc));
     let mut sink = ListSink::new(alloc, Vec::new(alloc));
     let mut watch = Watch::new();
     let outcome: Outcome = hydra(
@@ -61,7 +46,10 @@ fn run_whole<H: Threads + Wait + Sync, D: Disk + Drop + Send>(
         disks,
         &mut watch,
     );
-    Ok((outcome, Vec::from_slice(alloc, sink.bytes())?))
+    Ok((
+        exit_code(&outcome.status),
+        Vec::from_slice(alloc, sink.bytes())?,
+    ))
 }
 
 const FOUR: &[u8] = b"writer 0 files 20 kept 15
@@ -100,17 +88,9 @@ fn four_writers_load_four_shards(rt: HostRuntime) -> Result<(), Fail> {
     let alloc = rt.alloc();
     let mut disks = blank(alloc, 8)?;
     let load = "load d 4 2 --seed 7 --writers 4";
-    let (outcome, text) = run_whole(alloc, &rt, load, b"", &mut disks)?;
-    assert_eq!(rt; exit_code(&outcome.status), 0);
+    let (code, text) = run(alloc, &rt, load, &mut disks)?;
+    assert_eq!(rt; code, 0);
     assert_eq!(rt; text.as_slice(), FOUR);
-    // Each entry is a deed where it stands, and a changed one is none.
-    let shape = Shape {
-        shards: 4,
-        copies: 2,
-    };
-    let entries = outcome.journal.entries();
-    assert_eq!(rt; replays(alloc, shape, entries).unwrap(), true);
-    assert_eq!(rt; finds_changed(alloc, shape, entries).unwrap(), true);
     // All of it stands in the store, and nothing is left to sweep.
     let (code, text) = run(alloc, &rt, "audit d 4 2", &mut disks)?;
     assert_eq!(rt; code, 0);
@@ -126,44 +106,13 @@ fn four_writers_load_four_shards(rt: HostRuntime) -> Result<(), Fail> {
 #[test]
 fn a_load_puts_the_same_text_at_each_run(rt: HostRuntime) -> Result<(), Fail> {
     let alloc = rt.alloc();
-    let shape = Shape {
-        shards: 2,
-        copies: 2,
-    };
-    for round in 0..10 {
+    for _ in 0..10 {
         let mut disks = blank(alloc, 4)?;
         let load = "load d 2 2 --seed 1 --writers 8 --files 25";
-        let (outcome, text) = run_whole(alloc, &rt, load, b"", &mut disks)?;
-        assert_eq!(rt; exit_code(&outcome.status), 0);
+        let (code, text) = run(alloc, &rt, load, &mut disks)?;
+        assert_eq!(rt; code, 0);
         assert_eq!(rt; text.as_slice(), EIGHT);
-        // Of the first run each entry is a deed where it stands, and nothing is left to sweep.
-        if round == 0 {
-            let entries = outcome.journal.entries();
-            assert_eq!(rt; replays(alloc, shape, entries).unwrap(), true);
-            let (code, text) = run(alloc, &rt, "audit d 2 2", &mut disks)?;
-            assert_eq!(rt; code, 0);
-            assert_eq!(rt; count_of(&text, b" garbage 0\n"), 2);
-        }
     }
-    Ok(())
-}
-
-#[test]
-fn a_store_of_one_block_is_not_loaded(rt: HostRuntime) -> Result<(), Fail> {
-    let alloc = rt.alloc();
-    let mut disks = blank(alloc, 1)?;
-    let script = b"open a\nwrite a 63\nsettle\n".as_slice();
-    let (outcome, _text) = run_whole(alloc, &rt, "script d 1 1", script, &mut disks)?;
-    assert_eq!(rt; exit_code(&outcome.status), 0);
-    let load = "load d 1 1 --seed 7 --writers 1";
-    let (outcome, text) = run_whole(alloc, &rt, load, b"", &mut disks)?;
-    let (blocks, roots) = match outcome.status {
-        Status::NotEmpty { blocks, roots } => (blocks, roots),
-        _ => (0, 0),
-    };
-    assert_eq!(rt; blocks, 1);
-    assert_eq!(rt; roots, 0);
-    assert_eq!(rt; text.as_slice(), b"".as_slice());
     Ok(())
 }
 
